@@ -1,0 +1,5 @@
+pub mod Bits
+pub mod First
+pub mod Masks
+pub mod Tags
+pub mod Some
