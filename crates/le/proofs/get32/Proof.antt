@@ -1,0 +1,11 @@
+use borrow.Author.Needs.{needs}
+use native.Mathlib.Omega.{arith}
+use Rattle.le.proofs.Numbers.{leAt-add}
+use Rattle.le.proofs.get32.Statement.{statement}
+use Rattle.le.proofs.get32.Tie as tie
+
+returns : tie.Need-returns
+returns c = omega (arith, leAt-add 2 2 (c .before .before .before .args .b .now) (c .before .before .before .args .at))
+
+pub get32-spec : {M : Type 1} → statement M
+get32-spec = tie.close (tie.spec (λ c κs. search needs) (λ c. search needs) (λ c κs. search needs) (λ c. search needs) (λ c. search needs) returns)
