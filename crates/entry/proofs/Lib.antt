@@ -1,0 +1,2 @@
+pub mod Completions
+pub mod Submissions
