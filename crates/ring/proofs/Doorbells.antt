@@ -1,0 +1,28 @@
+-- The cases of the plain checks. Assumes nothing.
+use Prim.Native.Nat.{ℕ, _≤_, _<_}
+use mathlib.Core.Bool.{Bool, true, false, not}
+use mathlib.Core.Path.{_≡_, refl, sym, _∙_}
+use mathlib.Core.List.{[], _∷_, _++_}
+use lib.Dec.{ltb, leb}
+use borrow.Author.Tests.{leb-false}
+use Rattle.rules.specs.Rules.{firstMatch}
+use Rattle.rules.proofs.Tests.{range}
+use Rattle.rules.proofs.Tables.{Unapplied, passed, append-refused, append-passed}
+use Rattle.ring.specs.Doorbell.{placeRules, placeRefusal, checked}
+
+module _ (size head tail n : ℕ) (valid : Bool) (e : n ≡ placeRefusal size head tail) where
+  pub check-places : (n ≡ 0 → ⊥) → n ≡ checked size head tail valid
+  unfolding placeRefusal checked
+  check-places h = e ∙ sym (append-refused (placeRules size head tail) ((not valid, 10) ∷ []) (λ z. h (e ∙ z)))
+
+  module _ (z : n ≡ 0) where
+    places : Unapplied (placeRules size head tail)
+    unfolding placeRefusal
+    places = passed (placeRules size head tail) tt (sym e ∙ z)
+
+    pub sound : (head < size) × (tail < size) × (size ≤ 1024)
+    sound = (leb-false size head (places .1 .0), leb-false size tail (places .1 .1 .0), range 2 1024 size (places .0) .1)
+
+    pub check-value : (k : ℕ) → firstMatch ((not valid, 10) ∷ []) ≡ k → k ≡ checked size head tail valid
+    unfolding checked
+    check-value k v = sym (append-passed (placeRules size head tail) ((not valid, 10) ∷ []) places ∙ v)

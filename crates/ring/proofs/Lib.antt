@@ -1,0 +1,5 @@
+pub mod Wrap
+pub mod Steps
+pub mod Doorbells
+pub mod Counts
+pub mod Exact

@@ -1,0 +1,46 @@
+-- Laws of slots, distances and the turning tag. Assumes nothing.
+use mathlib.Core.Path.{_≡_, ap, _∙_}
+use mathlib.Core.Logic.{_⊎_, ⊎-elim}
+use Prim.Native.Nat.{ℕ, _+_, _-_, _%_, _<_, _≤_}
+use native.Mathlib.Omega.{arith}
+use native.Mathlib.Nat.{mod-eq-of-lt, mod-self, add-mod-right}
+use borrow.Author.Tests.{eq-eqb, ne-eqb}
+use Rattle.rules.proofs.Tests.{lt-or-ge, same-or-not}
+use Rattle.ring.specs.Slots.{next, distance, turned}
+
+-- the step from a slot and its tag to the next: on, or over the wrap
+module _ (s p g : ℕ) where
+  pub next-on : p + 1 < s → next s p ≡ p + 1
+  unfolding next
+  next-on l = mod-eq-of-lt l
+
+  pub next-over : p + 1 ≡ s → next s p ≡ 0
+  unfolding next
+  next-over e = ap (λ (x : ℕ). x % s) e ∙ mod-self s
+
+  pub turned-on : (p + 1 ≡ s → ⊥) → turned s p g ≡ g
+  unfolding turned
+  turned-on n = rw (ne-eqb (p + 1) s n)
+
+  pub turned-over : p + 1 ≡ s → turned s p g ≡ 1 - g
+  unfolding turned
+  turned-over e = rw (eq-eqb (p + 1) s e)
+
+pub data Step (s p g p′ g′ : ℕ) : Type 0 where
+  on : p + 1 < s → p′ ≡ p + 1 → g′ ≡ g → Step s p g p′ g′
+  over : p + 1 ≡ s → p′ ≡ 0 → g′ ≡ 1 - g → Step s p g p′ g′
+
+pub step : (s p g : ℕ) → p < s → Step s p g (next s p) (turned s p g)
+step s p g l =
+    ⊎-elim (λ (e : p + 1 ≡ s). over e (next-over s p g e) (turned-over s p g e))
+    (λ (n : p + 1 ≡ s → ⊥). on (omega arith) (next-on s p g (omega arith)) (turned-on s p g n)) (same-or-not (p + 1) s)
+
+-- a distance is taken ahead, or around the wrap
+module _ (s a b : ℕ) where
+  pub distance-ahead : a ≤ b → b < s → distance s a b ≡ b - a
+  unfolding distance
+  distance-ahead l h = ap (λ (x : ℕ). x % s) {y = b - a + s} (omega arith) ∙ add-mod-right (b - a) s ∙ mod-eq-of-lt (omega arith)
+
+  pub distance-around : b < a → a < s → distance s a b ≡ b + s - a
+  unfolding distance
+  distance-around l h = mod-eq-of-lt (omega arith)

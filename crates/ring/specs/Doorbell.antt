@@ -1,0 +1,32 @@
+-- Which doorbell values are valid, and the plain checks.
+use Prim.Native.Nat.{ℕ}
+use mathlib.Core.Bool.{Bool, not, _&&_}
+use mathlib.Core.List.{List, [], _∷_, _++_}
+use lib.Dec.{ltb, leb}
+use Rattle.rules.specs.Rules.{Table, firstMatch, outsideOf}
+use Rattle.ring.specs.Slots.{distance}
+
+-- "A tail value is valid when it is below the size and its distance from the head is no less than the old tail's."
+unfoldable pub validTail : ℕ → ℕ → ℕ → ℕ → Bool
+validTail size head tail v = ltb v size && leb (distance size head tail) (distance size head v)
+
+-- "A head value is valid when it is below the size and its distance from the old head is no more than the tail's."
+unfoldable pub validHead : ℕ → ℕ → ℕ → ℕ → Bool
+validHead size head tail v = ltb v size && leb (distance size head v) (distance size head tail)
+
+-- "size outside 2 to 1,024 entries" (3); "for .. the plain doorbell checks also a head or tail not below size" (10)
+abbrev pub placeRules : ℕ → ℕ → ℕ → Table
+placeRules size head tail = (outsideOf 2 1024 size, 3) ∷ (leb size head, 10) ∷ (leb size tail, 10) ∷ []
+
+unfoldable pub placeRefusal : ℕ → ℕ → ℕ → ℕ
+placeRefusal size head tail = firstMatch (placeRules size head tail)
+
+-- a plain check, from whether the value is valid: "doorbell value invalid" (10) comes last
+unfoldable pub checked : ℕ → ℕ → ℕ → Bool → ℕ
+checked size head tail valid = firstMatch (placeRules size head tail ++ ((not valid, 10) ∷ []))
+
+abbrev pub tailCheck : ℕ → ℕ → ℕ → ℕ → ℕ
+tailCheck size head tail v = checked size head tail (validTail size head tail v)
+
+abbrev pub headCheck : ℕ → ℕ → ℕ → ℕ → ℕ
+headCheck size head tail v = checked size head tail (validHead size head tail v)

@@ -1,0 +1,16 @@
+-- Slots of a ring, and the phase tag from one to the next.
+use Prim.Native.Nat.{ℕ, _+_, _-_, _%_}
+use lib.Dec.{eqb}
+use Rattle.rules.specs.Rules.{pick}
+
+-- the slot after p
+unfoldable pub next : ℕ → ℕ → ℕ
+next size p = (p + 1) % size
+
+-- how far b lies after a: "Distances are modulo the size"
+unfoldable pub distance : ℕ → ℕ → ℕ → ℕ
+distance size a b = (b + size - a) % size
+
+-- the phase tag of the slot after p, where that of p is tag: it "turns over at each wrap"
+unfoldable pub turned : ℕ → ℕ → ℕ → ℕ
+turned size p tag = pick (eqb (p + 1) size) (1 - tag) tag
