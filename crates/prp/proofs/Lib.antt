@@ -1,0 +1,7 @@
+pub mod Touched
+pub mod Counts
+pub mod Lists
+pub mod Turns
+pub mod Buffers
+pub mod Whole
+pub mod Facts

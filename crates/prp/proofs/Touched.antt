@@ -1,0 +1,29 @@
+-- Laws of page sizes, and of the number of pages that a transfer touches. Assumes nothing.
+use Prim.Native.Nat.{ℕ, _+_, _-_, _*_, _/_, _%_, _≤_, _<_}
+use mathlib.Core.Path.{_≡_, ap, _∙_}
+use native.Mathlib.Nat.{mul-le-mul-left, mod-lt, div-lt-iff-lt-mul, div-add-mod', mul-add-div-right}
+use native.Mathlib.Omega.{arith}
+use lib.Pow.{pow-pos, pow-mono}
+use Rattle.prp.specs.Pages.{longest, mostPages, pageSize, pagesTouched}
+
+pub page-low : (k : ℕ) → 4096 ≤ pageSize k
+unfolding pageSize
+page-low k = omega (arith, pow-pos k)
+
+pub page-high : (k : ℕ) → k ≤ 4 → pageSize k ≤ 65536
+unfolding pageSize
+page-high k h = mul-le-mul-left 4096 (pow-mono h)
+
+module _ (page prp1 len : ℕ) (low : 4096 ≤ page) (some : 0 < len) where
+  pos : 0 < page
+  pos = omega arith
+
+  -- the pages touched, by the offset of prp1 alone
+  pub by-offset : pagesTouched page prp1 len ≡ (prp1 % page + len - 1) / page + 1
+  unfolding pagesTouched
+  by-offset =
+      let apart : prp1 + len - 1 ≡ prp1 / page * page + (prp1 % page + len - 1) = omega (arith, div-add-mod' prp1 page) in
+      omega (arith, ap (λ (x : ℕ). x / page) apart ∙ mul-add-div-right pos (prp1 / page) (prp1 % page + len - 1))
+
+  pub touched-most : len ≤ longest → (prp1 % page + len - 1) / page < mostPages
+  touched-most h = div-lt-iff-lt-mul pos .1 (omega (arith, mod-lt prp1 pos))

@@ -1,0 +1,4 @@
+pub mod Pages
+pub mod Walk
+pub mod Answer
+pub mod Examples
