@@ -1,0 +1,84 @@
+-- Worked examples of turns, levels and the refill, computed from the definitions.
+use Prim.Native.Nat.{ℕ, zero, suc, _+_, _^_}
+use mathlib.Core.Bool.{true, false}
+use mathlib.Core.List.{List, [], _∷_, _++_}
+use mathlib.Core.Path.{_≡_, refl}
+use Rattle.bits.specs.Bits.{isSet, first, someBelow}
+use Rattle.arbiter.specs.declared.Arbiter.{Arbiter}
+use Rattle.arbiter.specs.declared.Candidates.{Candidates}
+use Rattle.arbiter.specs.declared.Chosen.{Chosen}
+use Rattle.arbiter.specs.declared.Chosen.the-variants.{Queue, Nobody}
+use Rattle.arbiter.specs.Word.{burstOf}
+use Rattle.arbiter.specs.Turns.{nextAfter, turn}
+use Rattle.arbiter.specs.Arbiter.{withLevels, withCredit, fresh, ready, levelTurn, someWaits, someReady, toppedUp, byGroup, byLevel, byWeight, choice}
+
+abbrev pub maskOfIds : List ℕ → ℕ
+maskOfIds [] = 0
+maskOfIds (i ∷ is) = 2 ^ i + maskOfIds is
+
+-- the candidates, by their class: urgent, high, medium, low
+abbrev pub classes : List ℕ → List ℕ → List ℕ → List ℕ → Candidates
+classes u h m l =
+    record { all = maskOfIds (u ++ h ++ m ++ l); urgent = maskOfIds u; high = maskOfIds h; medium = maskOfIds m; low = maskOfIds l }
+
+-- candidates of one class alone
+abbrev pub urgents : List ℕ → Candidates
+urgents is = classes is [] [] []
+
+abbrev pub highs : List ℕ → Candidates
+highs is = classes [] is [] []
+
+abbrev pub mediums : List ℕ → Candidates
+mediums is = classes [] [] is []
+
+abbrev pub lows : List ℕ → Candidates
+lows is = classes [] [] [] is
+
+abbrev pub times : ℕ → Candidates → List Candidates
+times zero c = []
+times (suc n) c = c ∷ times n c
+
+abbrev pub follow : (Arbiter → List ℕ) → Arbiter → Chosen → List ℕ
+follow f a (Queue i b) = i ∷ f b
+follow f a Nobody = 99 ∷ f a
+
+-- the queues that are named one after another, by the candidates at each choice; 99 where nobody is
+unfoldable pub named : Arbiter → List Candidates → List ℕ
+named a [] = []
+named a (c ∷ cs) = follow (λ b. named b cs) a (choice a c)
+
+abbrev pub credits : Arbiter → List ℕ
+credits a = a .high .credit ∷ a .medium .credit ∷ a .low .credit ∷ []
+
+-- weights 2, 3 and 4, of which 0, 1 and 4 are left
+abbrev pub spent : Arbiter
+spent =
+    let a = fresh true 0x01020300 in
+    withLevels a (withCredit (a .high) 0) (withCredit (a .medium) 1) (withCredit (a .low) 4)
+
+unfoldable pub Examples : Type 0
+Examples =
+    -- all three refill, also a level that has credit left, and nothing is added up
+    (credits (toppedUp spent (highs (1 ∷ []))) ≡ 2 ∷ 3 ∷ 4 ∷ [])
+    -- no refill where another level has a candidate and credit, nor where no level has a candidate
+    × (credits (toppedUp spent (classes [] (1 ∷ []) (2 ∷ []) [])) ≡ 0 ∷ 1 ∷ 4 ∷ [])
+    × (credits (toppedUp spent (urgents (1 ∷ []))) ≡ 0 ∷ 1 ∷ 4 ∷ [])
+    × (named (fresh true 0x00010000) (times 6 (classes [] (1 ∷ []) (2 ∷ []) [])) ≡ 1 ∷ 2 ∷ 2 ∷ 1 ∷ 2 ∷ 2 ∷ [])
+    -- burst 2, medium weight 2: the refill for queue 1 leaves queue 2 the rest of its turn; then one credit is left, and queue 4's turn is as short
+    × (named (fresh true 0x00010001)
+    (highs (1 ∷ []) ∷ mediums (2 ∷ 4 ∷ []) ∷ highs (1 ∷ []) ∷ times 4 (mediums (2 ∷ 4 ∷ [])))
+    ≡ 1 ∷ 2 ∷ 1 ∷ 2 ∷ 4 ∷ 2 ∷ 2 ∷ [])
+    -- burst 4: a holder that ran empty goes on with its old remainder, and a choice of nobody changes no turn
+    × (named (fresh false 2) (urgents (1 ∷ []) ∷ urgents [] ∷ times 4 (urgents (1 ∷ 2 ∷ []))) ≡ 1 ∷ 99 ∷ 1 ∷ 1 ∷ 1 ∷ 2 ∷ [])
+    -- burst 2: under mechanism 1 queue 0 is served first and without a turn, so that queue 1 goes on with its own; and at no cost
+    × (named (fresh true 1)
+    (times 3 (urgents (0 ∷ 1 ∷ [])) ++ urgents (1 ∷ []) ∷ urgents (0 ∷ 1 ∷ []) ∷ times 2 (urgents (1 ∷ 2 ∷ [])))
+    ≡ 0 ∷ 0 ∷ 0 ∷ 1 ∷ 0 ∷ 1 ∷ 2 ∷ [])
+    × (choice (fresh true 0) (highs (0 ∷ [])) ≡ Queue 0 (fresh true 0))
+    -- burst 7: a holder is served while it is a candidate; in a level, here of weight 3, while there is credit
+    × (named (fresh false 7) (times 3 (urgents (0 ∷ 1 ∷ 2 ∷ [])) ++ times 2 (urgents (1 ∷ 2 ∷ []))) ≡ 0 ∷ 0 ∷ 0 ∷ 1 ∷ 1 ∷ [])
+    × (named (fresh true 0x00000207) (times 6 (lows (1 ∷ 2 ∷ []))) ≡ 1 ∷ 1 ∷ 1 ∷ 2 ∷ 2 ∷ 2 ∷ [])
+
+pub examples : Examples
+unfolding Examples named choice byWeight byLevel byGroup toppedUp someWaits someReady levelTurn ready someBelow turn nextAfter burstOf first isSet
+examples = (refl, refl, refl, refl, refl, refl, refl, refl, refl, refl)

@@ -1,0 +1,4 @@
+pub mod Word
+pub mod Turns
+pub mod Arbiter
+pub mod Examples
