@@ -1,0 +1,145 @@
+// What the rig's C program links, on plain numbers and byte buffers: include/bellrafter.h declares it. An answer of several
+// numbers goes back in a struct; beside a refusal every other number is 0.
+ghost use mathlib.Core.Path.{_≡_};
+ghost use lib.ListN.{length};
+ghost use Rattle.le.specs.Memory.{put};
+ghost use Rattle.entry.specs.Completion.{completion, writeRefusal, written, completionRead};
+ghost use Rattle.ring.specs.Doorbell.{tailCheck, headCheck};
+ghost use Rattle.ring.specs.Reader.{ringRead};
+ghost use Rattle.prp.specs.Pages.{pageSize, byteCounts};
+ghost use Rattle.prp.specs.Walk.{pageWalk};
+ghost use Rattle.prp.specs.Answer.{answer, addressesOf, numbers};
+ghost use Rattle.rig.specs.Answers.{completionAnswer, waitingAnswer, pagesAnswer};
+use entry::completion::CompletionRead;
+use prp::Walked;
+use ring::reader::Waiting;
+
+#[repr(C)]
+pub struct CompletionAnswer {
+    pub refusal: u64,
+    pub result: u32,
+    pub sqhd: u16,
+    pub sqid: u16,
+    pub cid: u16,
+    pub status: u16,
+    pub tag: u32,
+}
+
+#[repr(C)]
+pub struct WaitingAnswer {
+    pub refusal: u64,
+    pub count: u64,
+}
+
+#[repr(C)]
+pub struct PagesAnswer {
+    pub refusal: u64,
+    pub pages: u64,
+    pub reads: u64,
+}
+
+// Writes a completion entry into the first 16 bytes of `entry`.
+#[no_mangle]
+pub extern "C" fn bellrafter_completion_write(
+    entry: &mut [u8],
+    result: u32,
+    sqhd: u16,
+    sqid: u16,
+    cid: u16,
+    status: u64,
+    tag: u64,
+) -> u64
+    ensures { λ r. ⌜ r ≡ writeRefusal (length (now (entry .entry))) status ⌝ }
+    ensures { λ _. ⌜ now (entry .exit) ≡ written (now (entry .entry)) (completion result sqhd sqid cid status) tag ⌝ }
+{
+    entry::completion::write(entry, result, sqhd, sqid, cid, status, tag)
+}
+
+// Reads the completion entry in the first 16 bytes of `entry`.
+#[no_mangle]
+pub extern "C" fn bellrafter_completion_read(entry: &[u8]) -> CompletionAnswer
+    ensures { λ r. ⌜ r ≡ completionAnswer (completionRead (now (entry .entry))) ⌝ }
+{
+    match entry::completion::read(entry) {
+        CompletionRead::Entry(e, tag) => CompletionAnswer {
+            refusal: 0,
+            result: e.result,
+            sqhd: e.sqhd,
+            sqid: e.sqid,
+            cid: e.cid,
+            status: e.status,
+            tag: tag as u32,
+        },
+        CompletionRead::Refused(number) => CompletionAnswer {
+            refusal: number,
+            result: 0,
+            sqhd: 0,
+            sqid: 0,
+            cid: 0,
+            status: 0,
+            tag: 0,
+        },
+    }
+}
+
+// How many completions wait in a ring, for a reader that stands at `head` and expects `tag` there.
+#[no_mangle]
+pub extern "C" fn bellrafter_ring_read(ring: &[u8], size: u64, head: u64, tag: u64) -> WaitingAnswer
+    ensures { λ r. ⌜ r ≡ waitingAnswer (ringRead (now (ring .entry)) size head tag) ⌝ }
+{
+    match ring::reader::read(ring, size, head, tag) {
+        Waiting::Count(count) => WaitingAnswer {
+            refusal: 0,
+            count: count,
+        },
+        Waiting::Refused(number) => WaitingAnswer {
+            refusal: number,
+            count: 0,
+        },
+    }
+}
+
+// The check of a tail value for a submission queue.
+#[no_mangle]
+pub extern "C" fn bellrafter_tail_check(size: u64, head: u64, tail: u64, value: u64) -> u64
+    ensures { λ r. ⌜ r ≡ tailCheck size head tail value ⌝ }
+{
+    ring::doorbell::check_tail(size, head, tail, value)
+}
+
+// The check of a head value for a completion queue.
+#[no_mangle]
+pub extern "C" fn bellrafter_head_check(size: u64, head: u64, tail: u64, value: u64) -> u64
+    ensures { λ r. ⌜ r ≡ headCheck size head tail value ⌝ }
+{
+    ring::doorbell::check_head(size, head, tail, value)
+}
+
+// Walks the pages of `length` bytes at `prp1`, with the page size number `page`: 8 bytes of `addresses` and 4 of `counts` for each.
+#[no_mangle]
+pub extern "C" fn bellrafter_page_walk(
+    memory: &[u8],
+    prp1: u64,
+    prp2: u64,
+    length: u64,
+    page: u64,
+    addresses: &mut [u8],
+    counts: &mut [u8],
+) -> PagesAnswer
+    ensures { λ r. do ⌜ r ≡ pagesAnswer (answer (pageWalk (now (memory .entry)) prp1 prp2 length page (← ⟦addresses.len()⟧ .entry) (← ⟦counts.len()⟧ .entry))) ⌝ }
+    ensures { λ _. do ⌜ now (addresses .exit) ≡ put (now (addresses .entry)) 0 (numbers 8 (addressesOf (pageWalk (now (memory .entry)) prp1 prp2 length page (← ⟦addresses.len()⟧ .entry) (← ⟦counts.len()⟧ .entry)))) ⌝ }
+    ensures { λ r. ⌜ now (counts .exit) ≡ put (now (counts .entry)) 0 (numbers 4 (byteCounts (pageSize page) prp1 length (r .pages))) ⌝ }
+{
+    match prp::walk(memory, prp1, prp2, length, page, addresses, counts) {
+        Walked::Pages(pages, reads) => PagesAnswer {
+            refusal: 0,
+            pages: pages,
+            reads: reads,
+        },
+        Walked::Refused(number) => PagesAnswer {
+            refusal: number,
+            pages: 0,
+            reads: 0,
+        },
+    }
+}
