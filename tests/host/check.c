@@ -1,0 +1,149 @@
+#include "check.h"
+
+/* Failures printed; the rest are only counted. */
+enum { PRINTED = 40 };
+
+uint64_t passed;
+uint64_t failed;
+
+struct answer of_number(uint64_t refusal)
+{
+    return (struct answer){1, {refusal}};
+}
+
+struct answer of_completion(struct bellrafter_completion c)
+{
+    return (struct answer){7, {c.refusal, c.result, c.sqhd, c.sqid, c.cid, c.status, c.tag}};
+}
+
+struct answer of_waiting(struct bellrafter_waiting waiting)
+{
+    return (struct answer){2, {waiting.refusal, waiting.count}};
+}
+
+struct answer of_pages(struct bellrafter_pages pages)
+{
+    return (struct answer){3, {pages.refusal, pages.pages, pages.reads}};
+}
+
+static void count(bool good)
+{
+    passed += good;
+    failed += !good;
+}
+
+static void print_answers(const char *what, const struct answer *wanted, const struct answer *came)
+{
+    printf("FAILED %s: wanted", what);
+    for (size_t i = 0; i < wanted->count; i++)
+        printf(" %" PRIu64, wanted->number[i]);
+    printf(", came");
+    for (size_t i = 0; i < came->count; i++)
+        printf(" %" PRIu64, came->number[i]);
+    printf("\n");
+}
+
+static void print_first_difference(const char *what, const struct view *view)
+{
+    size_t at = 0;
+
+    while (view->wanted[at] == view->came[at])
+        at++;
+    printf("FAILED %s: %s byte %ld: wanted %02x, came %02x\n", what, view->name, (long)at - GUARD, view->wanted[at],
+           view->came[at]);
+}
+
+void compare(const char *what, struct answer wanted, struct answer came, const struct view *views, size_t view_count)
+{
+    bool print = failed < PRINTED;
+    bool good = memcmp(wanted.number, came.number, sizeof wanted.number) == 0;
+
+    if (!good && print)
+        print_answers(what, &wanted, &came);
+    for (size_t i = 0; i < view_count; i++) {
+        bool same = memcmp(views[i].wanted, views[i].came, views[i].bytes) == 0;
+        if (!same && print)
+            print_first_difference(what, &views[i]);
+        good = good && same;
+    }
+    count(good);
+}
+
+void expect(const char *what, struct answer wanted, struct answer came)
+{
+    compare(what, wanted, came, NULL, 0);
+}
+
+static struct {
+    const char *what;
+    uint64_t times;
+} notes[24];
+
+void note(const char *what, bool happened)
+{
+    size_t i = 0;
+
+    while (notes[i].what != NULL && strcmp(notes[i].what, what) != 0)
+        i++;
+    notes[i].what = what;
+    notes[i].times += happened;
+}
+
+void report_notes(const char *title)
+{
+    printf("%s\n", title);
+    count(notes[0].what != NULL);
+    for (size_t i = 0; notes[i].what != NULL; i++) {
+        printf("%s  %-26s %" PRIu64 "\n", notes[i].times > 0 ? "" : "FAILED", notes[i].what, notes[i].times);
+        count(notes[i].times > 0);
+    }
+    memset(notes, 0, sizeof notes);
+}
+
+/* The generator is splitmix64. */
+static uint64_t state;
+
+void seed_random(uint64_t seed)
+{
+    state = seed;
+}
+
+uint64_t any_number(void)
+{
+    uint64_t z = state += UINT64_C(0x9E3779B97F4A7C15);
+
+    z = (z ^ (z >> 30)) * UINT64_C(0xBF58476D1CE4E5B9);
+    z = (z ^ (z >> 27)) * UINT64_C(0x94D049BB133111EB);
+    return z ^ (z >> 31);
+}
+
+uint64_t below(uint64_t bound)
+{
+    return any_number() % bound;
+}
+
+bool once_in(uint64_t times)
+{
+    return below(times) == 0;
+}
+
+void fill_random(uint8_t *bytes, size_t count)
+{
+    for (size_t at = 0; at < count; at += 8)
+        put(bytes + at, count - at < 8 ? (int)(count - at) : 8, any_number());
+}
+
+void put(uint8_t *bytes, int width, uint64_t value)
+{
+    for (int i = 0; i < width; i++)
+        bytes[i] = (uint8_t)(value >> (8 * i));
+}
+
+struct answer call_walk(page_walk *function, const struct walk *w, const uint8_t *memory, struct results *results)
+{
+    uint8_t *addresses = w->address_bytes > 0 ? results->addresses + GUARD : NULL;
+    uint8_t *counts = w->count_bytes > 0 ? results->counts + GUARD : NULL;
+
+    return of_pages(function(w->memory_bytes > 0 ? memory : NULL, w->memory_bytes, w->prp1, w->prp2, w->length, w->page,
+                             addresses, w->address_bytes, counts, w->count_bytes));
+}

@@ -1,0 +1,2 @@
+// The header must be readable as C++.
+#include "bellrafter.h"

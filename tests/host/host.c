@@ -1,0 +1,23 @@
+/*
+ * Calls every function of bellrafter.h: first the fixed cases, each with the answer that it must have, then random
+ * calls, each compared with the reference.
+ *
+ * host [SEED [CALLS]]   CALLS random calls of each function
+ */
+#include <stdlib.h>
+
+#include "check.h"
+
+int main(int argc, char **argv)
+{
+    uint64_t seed = argc > 1 ? strtoull(argv[1], NULL, 0) : 1;
+    uint64_t calls = argc > 2 ? strtoull(argv[2], NULL, 0) : 100000;
+
+    setvbuf(stdout, NULL, _IOLBF, BUFSIZ); /* so that nothing printed is lost if a call crashes */
+    printf("seed %" PRIu64 "\n", seed);
+    fixed_cases();
+    seed_random(seed);
+    random_calls(calls);
+    printf("%" PRIu64 " passed, %" PRIu64 " failed\n", passed, failed);
+    return failed > 0;
+}
