@@ -8,7 +8,7 @@ use native.Mathlib.Omega.{arith}
 use lib.Dec.{ltb, lit<}
 use borrow.Author.Tests.{lt-ltb, ltb-true, ltb-false}
 use Rattle.rules.specs.Rules.{pick}
-use Rattle.rules.proofs.Tests.{bool-cases, lt-or-ge, clash, or-false, and-true}
+use Rattle.rules.proofs.Tests.{bool-cases, clash, or-false, and-true}
 use Rattle.bits.specs.Bits.{isSet, first}
 use Rattle.bits.proofs.Bits.{set-within}
 use Rattle.bits.proofs.First.{first-hit, first-below}

@@ -10,7 +10,7 @@ use lib.ListN.{length, drop}
 use Rattle.rules.specs.Rules.{settle}
 use Rattle.le.specs.Le.{le, leAt}
 use Rattle.le.specs.Memory.{part, put, Bytes}
-use Rattle.le.proofs.Numbers.{leAt-field, leAt-lt, le-leAt}
+use Rattle.le.proofs.Numbers.{leAt-field, le-leAt}
 use Rattle.le.proofs.Parts.{put-length, part-add}
 use Rattle.entry.specs.Completion.{completionBytes, completionAt, phaseTag, writeRefusal, written, completionRead}
 use Rattle.entry.specs.declared.completion.Completion.{Completion}

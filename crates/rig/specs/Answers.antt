@@ -1,5 +1,4 @@
 -- Document 01's number and values for each case of an answer: "every other number in its answer is 0" beside a refusal.
-use Prim.Native.Nat.{ℕ}
 use Rattle.entry.specs.declared.completion.CompletionRead.{CompletionRead}
 use Rattle.entry.specs.declared.completion.CompletionRead.the-variants as C
 use Rattle.ring.specs.declared.reader.Waiting.{Waiting}

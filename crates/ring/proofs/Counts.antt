@@ -1,19 +1,19 @@
 -- Laws of the reader's walk. Assumes nothing.
 use Prim.Native.Nat.{ℕ, zero, suc, _+_, _-_, _*_, _%_, _<_, _≤_}
-use mathlib.Core.Path.{_≡_, refl, sym, ap, _∙_}
+use mathlib.Core.Path.{_≡_, refl, ap}
 use mathlib.Core.List.{List, [], _∷_}
 use native.Mathlib.Omega.{arith}
 use borrow.Author.Tests.{eq-eqb, ne-eqb, ltb-false, leb-false}
-use lib.ListN.{length, getD}
+use lib.ListN.{length}
 use lib.Dec.{ltb, leb}
-use Rattle.rules.specs.Rules.{firstMatch, outsideOf}
+use Rattle.rules.specs.Rules.{outsideOf}
 use Rattle.rules.proofs.Tests.{range}
 use Rattle.rules.proofs.Tables.{passed}
 use Rattle.le.specs.Le.{leAt}
 use Rattle.le.proofs.Parts.{part-getD}
 use Rattle.entry.specs.Completion.{phaseTag}
 use Rattle.ring.specs.Slots.{next, turned}
-use Rattle.ring.specs.Reader.{slotIn, tagIn, readCount, readSlots, found, readerRefusal}
+use Rattle.ring.specs.Reader.{slotIn, tagIn, readCount, readSlots, readerRefusal}
 
 -- a slot's phase tag is the lowest bit of its byte 14
 pub tag-byte : (ring : List ℕ) (p : ℕ) → tagIn ring p ≡ leAt 1 ring (16 * p + 14) % 2

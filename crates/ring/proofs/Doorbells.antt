@@ -1,9 +1,8 @@
 -- The cases of the plain checks. Assumes nothing.
 use Prim.Native.Nat.{ℕ, _≤_, _<_}
-use mathlib.Core.Bool.{Bool, true, false, not}
-use mathlib.Core.Path.{_≡_, refl, sym, _∙_}
-use mathlib.Core.List.{[], _∷_, _++_}
-use lib.Dec.{ltb, leb}
+use mathlib.Core.Bool.{Bool, not}
+use mathlib.Core.Path.{_≡_, sym, _∙_}
+use mathlib.Core.List.{[], _∷_}
 use borrow.Author.Tests.{leb-false}
 use Rattle.rules.specs.Rules.{firstMatch}
 use Rattle.rules.proofs.Tests.{range}

@@ -1,6 +1,6 @@
 -- What the reader's number means: that many entries from its slot on have the tag expected, and the next has not. Assumes nothing.
 use Prim.Native.Nat.{ℕ, zero, suc, _+_, _-_, _%_, _<_, _≤_}
-use mathlib.Core.Path.{_≡_, refl, sym, ap, ap₂, _∙_, subst}
+use mathlib.Core.Path.{_≡_, sym, ap, ap₂, _∙_, subst}
 use mathlib.Core.List.{List}
 use native.Mathlib.Nat.{add-zero, mod-add-mod, mod-eq-of-lt}
 use native.Mathlib.Omega.{arith}

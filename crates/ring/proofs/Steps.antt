@@ -5,7 +5,7 @@ use Prim.Native.Nat.{ℕ, _+_, _-_, _%_, _<_, _≤_}
 use native.Mathlib.Omega.{arith}
 use native.Mathlib.Nat.{mod-eq-of-lt, mod-self, add-mod-right}
 use borrow.Author.Tests.{eq-eqb, ne-eqb}
-use Rattle.rules.proofs.Tests.{lt-or-ge, same-or-not}
+use Rattle.rules.proofs.Tests.{same-or-not}
 use Rattle.ring.specs.Slots.{next, distance, turned}
 
 -- the step from a slot and its tag to the next: on, or over the wrap

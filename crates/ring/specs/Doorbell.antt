@@ -1,7 +1,7 @@
 -- Which doorbell values are valid, and the plain checks.
 use Prim.Native.Nat.{ℕ}
 use mathlib.Core.Bool.{Bool, not, _&&_}
-use mathlib.Core.List.{List, [], _∷_, _++_}
+use mathlib.Core.List.{[], _∷_, _++_}
 use lib.Dec.{ltb, leb}
 use Rattle.rules.specs.Rules.{Table, firstMatch, outsideOf}
 use Rattle.ring.specs.Slots.{distance}

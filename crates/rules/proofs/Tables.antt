@@ -1,10 +1,10 @@
 -- Laws of tables and of what settles a call. Assumes nothing.
 use Prim.Native.Nat.{ℕ, _<_}
 use mathlib.Core.Bool.{Bool, true, false, _&&_}
-use mathlib.Core.List.{List, [], _∷_, _++_}
-use mathlib.Core.Path.{_≡_, refl, ap, subst}
+use mathlib.Core.List.{[], _∷_, _++_}
+use mathlib.Core.Path.{_≡_, refl, subst}
 use native.Mathlib.Nat.{lt-irrefl}
-use lib.Dec.{T, ltb, ltb→lt, eqb}
+use lib.Dec.{T, ltb, ltb→lt}
 use borrow.Author.Tests.{eq-eqb, ne-eqb}
 use Rattle.rules.specs.Rules.{pick, Table, firstMatch, settle}
 

@@ -1,4 +1,3 @@
-use borrow.Author.Needs.{needs}
 use borrow.Author.Tests.{lt-ltb, le-ltb, le-leb, lt-leb}
 use Rattle.ring.specs.Doorbell.{placeRefusal}
 use Rattle.ring.proofs.doorbell.places.Statement.{statement}
