@@ -3,7 +3,7 @@ use mathlib.Core.Path.{_≡_, ap, _∙_}
 use mathlib.Core.Logic.{_⊎_, ⊎-elim}
 use Prim.Native.Nat.{ℕ, _+_, _-_, _%_, _<_, _≤_}
 use native.Mathlib.Omega.{arith}
-use native.Mathlib.Nat.{mod-eq-of-lt, mod-self, add-mod-right}
+use native.Mathlib.Nat.{mod-lt, mod-eq-of-lt, mod-self, add-mod-right}
 use borrow.Author.Tests.{eq-eqb, ne-eqb}
 use Rattle.rules.proofs.Tests.{same-or-not}
 use Rattle.ring.specs.Slots.{next, distance, turned}
@@ -34,6 +34,10 @@ pub step : (s p g : ℕ) → p < s → Step s p g (next s p) (turned s p g)
 step s p g l =
     ⊎-elim (λ (e : p + 1 ≡ s). over e (next-over s p g e) (turned-over s p g e))
     (λ (n : p + 1 ≡ s → ⊥). on (omega arith) (next-on s p g (omega arith)) (turned-on s p g n)) (same-or-not (p + 1) s)
+
+pub next-below : (s p : ℕ) → 0 < s → next s p < s
+unfolding next
+next-below s p h = mod-lt (p + 1) h
 
 -- a distance is taken ahead, or around the wrap
 module _ (s a b : ℕ) where

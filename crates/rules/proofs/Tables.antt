@@ -22,7 +22,7 @@ passed-row : (t : Bool) (n m : ℕ) → T (ltb 0 n) → pick t n m ≡ 0 → (t 
 passed-row true n m h e = absurd (lt-irrefl 0 (subst (λ (k : ℕ). 0 < k) e (ltb→lt 0 n h)))
 passed-row false n m h e = (refl, e)
 
-both : (a b : Bool) → T (a && b) → T a × T b
+pub both : (a b : Bool) → T (a && b) → T a × T b
 both true b h = (tt, h)
 both false b h = absurd h
 

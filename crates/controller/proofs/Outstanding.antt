@@ -1,0 +1,43 @@
+-- Which tags are outstanding once a tag is taken, and once one is given back. Assumes nothing.
+use Prim.Native.Nat.{ℕ, _<_}
+use mathlib.Core.Bool.{Bool, true, false, not, _&&_}
+use mathlib.Core.Path.{_≡_, sym, ap, _∙_}
+use lib.Dec.{ltb}
+use borrow.Author.Tests.{ltb-true, lt-ltb}
+use Rattle.rules.proofs.Tests.{and-true, not-yes, clash}
+use Rattle.bits.specs.Bits.{isSet}
+use Rattle.bits.specs.Tags.{givenBack}
+use Rattle.bits.proofs.Tags.{OneTaken, back-set, back-other}
+use Rattle.controller.specs.State.{outstanding}
+
+module _ (f t : ℕ) where
+  pub out-set : outstanding f t ≡ true → (t < 64) × (isSet f t ≡ false)
+  unfolding outstanding
+  out-set o = let b = and-true (ltb t 64) (not (isSet f t)) o in (ltb-true t 64 (b .0), not-yes _ (b .1))
+
+  out-is : t < 64 → isSet f t ≡ false → outstanding f t ≡ true
+  unfolding outstanding
+  out-is l e = rw (lt-ltb t 64 l, e)
+
+out-same : (f g t : ℕ) → isSet g t ≡ isSet f t → outstanding g t ≡ outstanding f t
+unfolding outstanding
+out-same f g t e = ap (λ (b : Bool). ltb t 64 && not b) e
+
+-- tag n is taken, and left is left
+module _ {f n left : ℕ} (w : OneTaken f n left) where
+  pub taken-out : outstanding left n ≡ true
+  taken-out = out-is left n (w .low) (w .gone)
+
+  pub taken-new : (t : ℕ) → outstanding f t ≡ true → t ≡ n → ⊥
+  taken-new t o e = clash (w .free) (ap (isSet f) (sym e) ∙ out-set f t o .1)
+
+  pub taken-other : (t : ℕ) → (t ≡ n → ⊥) → outstanding left t ≡ outstanding f t
+  taken-other t d = out-same f left t (w .others t d)
+
+-- tag n is given back
+module _ (f n : ℕ) where
+  pub back-gone : n < 64 → (t : ℕ) → outstanding (givenBack f n) t ≡ true → t ≡ n → ⊥
+  back-gone l t o e = clash (back-set f n l) (ap (isSet (givenBack f n)) (sym e) ∙ out-set (givenBack f n) t o .1)
+
+  pub back-out : (t : ℕ) → (t ≡ n → ⊥) → outstanding (givenBack f n) t ≡ outstanding f t
+  back-out t d = out-same f (givenBack f n) t (back-other f n t d)

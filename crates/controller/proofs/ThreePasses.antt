@@ -1,0 +1,104 @@
+-- Demand 3 is not empty: document 01's CQ of size 2, over three passes and into a fourth. Assumes nothing.
+use Prim.Native.Nat.{ℕ, zero, suc, _*_, _%_, _<_}
+use mathlib.Core.Bool.{false}
+use mathlib.Core.List.{List, [], _∷_, _++_}
+use mathlib.Core.Path.{_≡_, refl, sym, _∙_}
+use native.Mathlib.Nat.{mod-lt, zero-lt-suc}
+use native.Mathlib.Omega.{arith}
+use lib.Dec.{lit<}
+use lib.ListN.{replicate}
+use Rattle.rules.specs.Rules.{settle}
+use Rattle.bits.specs.Bits.{isSet, first, maskOf, someBelow}
+use Rattle.bits.specs.Tags.{takenOne, givenBack}
+use Rattle.le.specs.Le.{le, leAt}
+use Rattle.le.specs.Memory.{part, put, Bytes}
+use Rattle.entry.specs.Completion.{completion, completionBytes, completionAt, phaseTag}
+use Rattle.entry.specs.Submission.{submissionAt}
+use Rattle.ring.specs.Slots.{next, distance, turned}
+use Rattle.ring.specs.Doorbell as ring
+use Rattle.ring.specs.Reader.{slotIn, tagIn, readCount, readSlots, found}
+use Rattle.arbiter.specs.Turns as turns
+use Rattle.arbiter.specs.Arbiter as arbiter
+use Rattle.arbiter.specs.Word as word
+use Rattle.controller.specs.State.{outstanding, freshController}
+use Rattle.controller.specs.Rings.{someRing, shareByte, shares, outside}
+use Rattle.controller.specs.Create as create
+use Rattle.controller.specs.Doorbell as doorbell
+use Rattle.controller.specs.Verdict.{inUse, verdictOne}
+use Rattle.controller.specs.Starting as starting
+use Rattle.controller.specs.Finishing as finishing
+use Rattle.controller.specs.Calls.{Call, createCq, createSq, tailWrite, headWrite, start, finish, Answer, refused, done, started, finished, answers}
+use Rattle.controller.specs.Demand.{reader, History, ringBytes, sizeOf, headWrites, unreleased}
+use Rattle.controller.proofs.Demand.{demand3}
+use Rattle.controller.proofs.Undisturbed.{bytes-append, bytes-zeros, undisturbed}
+
+-- submission entries of opcode 1, one for each CID
+abbrev pub entries : List ℕ → List ℕ
+entries [] = []
+entries (cid ∷ cids) = (1 ∷ 0 ∷ cid % 256 ∷ replicate 61 0) ++ entries cids
+
+-- the completion ring at 0 is clear, and the submission ring at 4,096 holds four entries
+unfoldable pub memory : List ℕ
+memory = replicate 4096 0 ++ entries (10 ∷ 11 ∷ 12 ∷ 13 ∷ [])
+
+-- "one posting, then 17; head write 1; slot 1 with tag 1; head write 0; slot 0 with tag 0": the first pass, and on to the fourth
+unfoldable pub calls : List Call
+calls =
+    createSq 0 4 4096 0 0 ∷ tailWrite 0 3 ∷ start ∷ start ∷ start
+    ∷ finish 0 5 77 ∷ finish 1 6 78 ∷ headWrite 0 1 ∷ finish 1 6 78
+    ∷ headWrite 0 0 ∷ finish 2 7 79 ∷ tailWrite 0 2 ∷ start ∷ start ∷ start ∷ headWrite 0 1 ∷ finish 0 8 80
+    ∷ headWrite 0 0 ∷ finish 1 9 81 ∷ headWrite 0 1 ∷ finish 2 10 82 ∷ tailWrite 0 3 ∷ start ∷ finish 0 11 83
+    ∷ headWrite 0 0 ∷ finish 0 11 83
+    ∷ []
+
+abbrev pub called : List Answer
+called =
+    done ∷ done ∷ done ∷ started 0 1 0 0 0 0 ∷ started 0 1 1 0 1 0 ∷ started 0 1 2 0 2 0
+    ∷ finished 0 ∷ refused 17 ∷ done ∷ finished 1
+    ∷ done ∷ finished 0 ∷ done ∷ started 0 1 0 0 3 0 ∷ started 0 1 1 0 0 0 ∷ started 0 1 2 0 1 0 ∷ done ∷ finished 1
+    ∷ done ∷ finished 0 ∷ done ∷ finished 1 ∷ done ∷ started 0 1 0 0 2 0 ∷ refused 17
+    ∷ done ∷ finished 0
+    ∷ []
+
+entries-bytes : (cids : List ℕ) → Bytes (entries cids)
+entries-bytes [] = λ i. lit< tt
+entries-bytes (cid ∷ cids) = bytes-append (1 ∷ 0 ∷ cid % 256 ∷ replicate 61 0) (entries cids) one (entries-bytes cids)
+  where
+    one : Bytes (1 ∷ 0 ∷ cid % 256 ∷ replicate 61 0)
+    one zero = lit< tt
+    one (suc zero) = lit< tt
+    one (suc (suc zero)) = mod-lt cid (zero-lt-suc 255)
+    one (suc (suc (suc i))) = bytes-zeros 61 i
+
+pub bytes : Bytes memory
+unfolding memory
+bytes = bytes-append (replicate 4096 0) (entries (10 ∷ 11 ∷ 12 ∷ 13 ∷ [])) (bytes-zeros 4096) (entries-bytes (10 ∷ 11 ∷ 12 ∷ 13 ∷ []))
+
+pub clear : (i : ℕ) → i < 2 → tagIn (part memory 0 (16 * 2)) i ≡ 0
+unfolding memory tagIn slotIn part phaseTag leAt
+clear zero h = refl
+clear (suc zero) h = refl
+clear (suc (suc i)) h = absurd (omega arith)
+
+-- a history of real calls
+unfoldable pub example : History
+unfolding memory calls create.createCqRefusal shares someRing someBelow first
+example = undisturbed false 0 0 2 0 memory bytes refl clear calls refl
+
+-- what is answered, what the ring holds after it, and what the reader finds: the last entry alone, in slot 0 with tag 0
+pub three-passes : (answers (freshController false 0) memory (createCq 0 2 0 ∷ calls) ≡ called)
+    × (headWrites example ≡ 1 ∷ 0 ∷ 1 ∷ 0 ∷ 1 ∷ 0 ∷ [])
+    × (ringBytes example ≡ completionBytes (completion 83 3 0 12 11) 0 ++ completionBytes (completion 82 2 0 11 10) 1)
+    × (reader (ringBytes example) (sizeOf example) (headWrites example) ≡ completion 83 3 0 12 11 ∷ [])
+unfolding memory calls undisturbed example settle isSet first maskOf someBelow takenOne givenBack le leAt part put completionBytes
+    submissionAt next distance turned ring.validTail ring.validHead outstanding someRing shareByte shares outside create.createCqRefusal
+    create.createSqRefusal create.createCq create.createSq doorbell.tailRefusal doorbell.tailWrite doorbell.headRefusal doorbell.headWrite inUse
+    verdictOne starting.candidate starting.candidates starting.entryAt starting.isPair starting.oneTaken
+    starting.takeOne starting.start finishing.full finishing.finishRefusal finishing.statusOf finishing.released finishing.unlinked
+    finishing.posted finishing.finishedController finishing.finish finishing.finishMemory arbiter.choice arbiter.byGroup turns.turn turns.nextAfter
+    word.burstOf reader found readCount readSlots slotIn tagIn completionAt phaseTag
+three-passes = (refl, refl, refl, refl)
+
+-- so that alone, by demand 3, was posted and is not yet released
+pub example-unreleased : unreleased example ≡ completion 83 3 0 12 11 ∷ []
+example-unreleased = sym (demand3 example) ∙ three-passes .3

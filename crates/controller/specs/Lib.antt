@@ -1,0 +1,12 @@
+pub mod State
+pub mod Rings
+pub mod Create
+pub mod Doorbell
+pub mod Verdict
+pub mod Starting
+pub mod Finishing
+pub mod Calls
+pub mod Valid
+pub mod Book
+pub mod Demand
+pub mod Cases

@@ -1,0 +1,81 @@
+-- The state: what stands for nothing, a controller with one part changed, and a fresh one.
+use Prim.Native.Nat.{ℕ, _-_, _^_}
+use mathlib.Core.Bool.{Bool, false, not, _&&_}
+use mathlib.Core.List.{[], _∷_}
+use lib.Dec.{ltb, eqb}
+use lib.ListN.{getD, set, replicate}
+use Rattle.rules.specs.Rules.{firstMatch, settle}
+use Rattle.bits.specs.Tags.{isFree}
+use Rattle.arbiter.specs.Arbiter.{fresh}
+use Rattle.controller.specs.declared.Ring.{Ring}
+use Rattle.controller.specs.declared.SubmissionQueue.{SubmissionQueue}
+use Rattle.controller.specs.declared.CompletionQueue.{CompletionQueue}
+use Rattle.controller.specs.declared.Command.{Command}
+use Rattle.controller.specs.declared.Controller.{Controller}
+use Rattle.controller.specs.declared.Changed.{Changed}
+
+abbrev pub noRing : Ring
+noRing = record { exists = false; base = 0; size = 0; head = 0; tail = 0 }
+
+abbrev pub noSq : SubmissionQueue
+noSq = record { ring = noRing; marked = false; cq = 0; class = 0 }
+
+abbrev pub noCq : CompletionQueue
+noCq = record { ring = noRing; phase = 0 }
+
+abbrev pub noCommand : Command
+noCommand = record { sq = 0; cid = 0; verdict = 0; first = 0; second = 0 }
+
+-- the queue of an id and the command of a tag; where the number is too large, what stands for nothing
+abbrev pub sqAt : Controller → ℕ → SubmissionQueue
+sqAt c i = getD (c .sqs) i noSq
+
+abbrev pub cqAt : Controller → ℕ → CompletionQueue
+cqAt c i = getD (c .cqs) i noCq
+
+abbrev pub commandAt : Controller → ℕ → Command
+commandAt c t = getD (c .commands) t noCommand
+
+-- a tag below 64 that is not free
+unfoldable pub outstanding : ℕ → ℕ → Bool
+outstanding free t = ltb t 64 && not (isFree free t)
+
+-- one part changed
+abbrev pub withHead : Ring → ℕ → Ring
+withHead r v = record { exists = r .exists; base = r .base; size = r .size; head = v; tail = r .tail }
+
+abbrev pub withTail : Ring → ℕ → Ring
+withTail r v = record { exists = r .exists; base = r .base; size = r .size; head = r .head; tail = v }
+
+abbrev pub sqWithRing : SubmissionQueue → Ring → SubmissionQueue
+sqWithRing q r = record { ring = r; marked = q .marked; cq = q .cq; class = q .class }
+
+abbrev pub cqWithRing : CompletionQueue → Ring → CompletionQueue
+cqWithRing q r = record { ring = r; phase = q .phase }
+
+abbrev pub withSq : Controller → ℕ → SubmissionQueue → Controller
+withSq c i q = record { sqs = set (c .sqs) i q; cqs = c .cqs; commands = c .commands; free = c .free; arbiter = c .arbiter }
+
+abbrev pub withCq : Controller → ℕ → CompletionQueue → Controller
+withCq c i q = record { sqs = c .sqs; cqs = set (c .cqs) i q; commands = c .commands; free = c .free; arbiter = c .arbiter }
+
+-- "A fresh controller has a mechanism .., the 32-bit Arbitration feature word, and no queues", and every tag is free
+abbrev pub freshController : Bool → ℕ → Controller
+freshController weighted word =
+    record {
+      sqs = replicate 16 noSq;
+      cqs = replicate 16 noCq;
+      commands = replicate 64 noCommand;
+      free = 2 ^ 64 - 1;
+      arbiter = fresh weighted word;
+    }
+
+abbrev pub changed : Controller → ℕ → Changed
+changed c n = record { refusal = n; controller = c }
+
+-- "mechanism other than 0 or 1" (23); "A controller refused with 23 is one of mechanism 0, word 0, no queues."
+unfoldable pub created : ℕ → ℕ → Changed
+created mechanism word =
+    settle (firstMatch ((ltb 1 mechanism, 23) ∷ []))
+    (changed (freshController false 0))
+    (changed (freshController (eqb mechanism 1) word) 0)
