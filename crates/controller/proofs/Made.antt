@@ -154,50 +154,69 @@ new-ring c n entry size base p =
       alone = p .1 .1 .1 .0;
     }
 
+-- where a call's refusal is 0
+module _ (c : Controller) where
+  pub new-cq : (n id size base : ℕ) → createCqRefusal c n id size base ≡ 0 → NewCq c n id size base
+  unfolding createCqRefusal
+  new-cq n id size base z =
+      let p = passed (createCqRules c n id size base) tt z in
+      record { id-low = omega (arith, ltb-false 15 id (p .0)); absent = p .1 .0; ring = new-ring c n 16 size base (p .1 .1) }
+
+  pub new-sq : (n id size base cq class : ℕ) → createSqRefusal c n id size base cq class ≡ 0 → NewSq c n id size base cq class
+  unfolding createSqRefusal
+  new-sq n id size base cq class z =
+      let p = passed (createSqRules c n id size base cq class) tt z in
+      record {
+        id-low = omega (arith, ltb-false 15 id (p .0));
+        absent = p .1 .0;
+        class-low = ltb-false 3 class (p .1 .1 .0);
+        cq-here = not-no _ (or-false _ _ (p .1 .1 .1 .0) .0);
+        ring = new-ring c n 64 size base (p .1 .1 .1 .1);
+      }
+
+  pub rung : (id : ℕ) → tailRefusal c id ≡ 0 → Rung c id
+  unfolding tailRefusal
+  rung id z =
+      let p = passed ((ltb 15 id, 1) ∷ (not (sqAt c id .ring .exists), 9) ∷ (sqAt c id .marked, 11) ∷ []) tt z in
+      record { id-low = omega (arith, ltb-false 15 id (p .0)); here = not-no _ (p .1 .0); unmarked = p .1 .1 .0 }
+
+  pub read : (id v : ℕ) → headRefusal c id v ≡ 0 → Read c id v
+  unfolding headRefusal
+  read id v z =
+      let p = passed ((ltb 15 id, 1) ∷ (not (cqAt c id .ring .exists), 9) ∷ (not (validHead (cqAt c id .ring) v), 10) ∷ []) tt z in
+      record { id-low = omega (arith, ltb-false 15 id (p .0)); here = not-no _ (p .1 .0); valid = not-no _ (p .1 .1 .0) }
+
 module _ (c : Controller) (m : List ℕ) where
   -- a refusal of a call that answers a number
   refusing : (call : Call) (n : ℕ) → (n ≡ 0 → ⊥) → Made c m call (ofChanged m (changed c n))
   refusing call n h = rw (ne-eqb n 0 h) (refuses call n)
 
   cq-made : (id size base : ℕ) → Made c m (createCq id size base) (perform c m (createCq id size base))
-  unfolding create.createCq createCqRefusal
+  unfolding create.createCq
   cq-made id size base =
       settle-cases (λ r. Made c m (createCq id size base) (ofChanged m r)) (createCqRefusal c (length m) id size base) (changed c) _
-      (λ z. let p = passed (createCqRules c (length m) id size base) tt z in
-      creates-cq id size base
-      (record { id-low = omega (arith, ltb-false 15 id (p .0)); absent = p .1 .0; ring = new-ring c (length m) 16 size base (p .1 .1) }))
+      (λ z. creates-cq id size base (new-cq c (length m) id size base z))
       (refusing (createCq id size base) _)
 
   sq-made : (id size base cq class : ℕ) → Made c m (createSq id size base cq class) (perform c m (createSq id size base cq class))
-  unfolding create.createSq createSqRefusal
+  unfolding create.createSq
   sq-made id size base cq class =
       settle-cases (λ r. Made c m (createSq id size base cq class) (ofChanged m r)) (createSqRefusal c (length m) id size base cq class) (changed c) _
-      (λ z. let p = passed (createSqRules c (length m) id size base cq class) tt z in
-      creates-sq id size base cq class
-      (record {
-        id-low = omega (arith, ltb-false 15 id (p .0));
-        absent = p .1 .0;
-        class-low = ltb-false 3 class (p .1 .1 .0);
-        cq-here = not-no _ (or-false _ _ (p .1 .1 .1 .0) .0);
-        ring = new-ring c (length m) 64 size base (p .1 .1 .1 .1);
-      }))
+      (λ z. creates-sq id size base cq class (new-sq c (length m) id size base cq class z))
       (refusing (createSq id size base cq class) _)
 
   tail-made : (id v : ℕ) → Made c m (tailWrite id v) (perform c m (tailWrite id v))
-  unfolding doorbell.tailWrite tailRefusal
+  unfolding doorbell.tailWrite
   tail-made id v =
       settle-cases (λ r. Made c m (tailWrite id v) (ofChanged m r)) (tailRefusal c id) (changed c) _
-      (λ z. let p = passed ((ltb 15 id, 1) ∷ (not (sqAt c id .ring .exists), 9) ∷ (sqAt c id .marked, 11) ∷ []) tt z in
-      let r : Rung c id = record { id-low = omega (arith, ltb-false 15 id (p .0)); here = not-no _ (p .1 .0); unmarked = p .1 .1 .0 } in
-      pick-cases (λ r. Made c m (tailWrite id v) (ofChanged m r)) (validTail (sqAt c id .ring) v) _ _ (moves-tail id v r) (marks id v r))
+      (λ z. pick-cases (λ r. Made c m (tailWrite id v) (ofChanged m r)) (validTail (sqAt c id .ring) v) _ _ (moves-tail id v (rung c id z)) (marks id v (rung c id z)))
       (refusing (tailWrite id v) _)
 
   head-made : (id v : ℕ) → Made c m (headWrite id v) (perform c m (headWrite id v))
-  unfolding doorbell.headWrite headRefusal
+  unfolding doorbell.headWrite
   head-made id v =
       settle-cases (λ r. Made c m (headWrite id v) (ofChanged m r)) (headRefusal c id v) (changed c) _
-      (λ z. let p = passed ((ltb 15 id, 1) ∷ (not (cqAt c id .ring .exists), 9) ∷ (not (validHead (cqAt c id .ring) v), 10) ∷ []) tt z in
-      moves-head id v (record { id-low = omega (arith, ltb-false 15 id (p .0)); here = not-no _ (p .1 .0); valid = not-no _ (p .1 .1 .0) }))
+      (λ z. moves-head id v (read c id v z))
       (refusing (headWrite id v) _)
 
   abbrev MadeStart : Start → Type 0

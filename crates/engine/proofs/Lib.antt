@@ -1,0 +1,4 @@
+pub mod Answers
+pub mod Doorbells
+pub mod Creates
+pub mod Finishes

@@ -1,0 +1,36 @@
+-- `post` meets its contract: what the writer leaves past the slot's start is put into the memory. Assumes nothing.
+use Prim.Native.Nat.{_+_, _*_, _≤_}
+use native.Mathlib.Omega.{arith}
+use lib.ListN.{length}
+use borrow.Author.Needs.{needs}
+use Rattle.entry.specs.Completion.{completion}
+use Rattle.engine.proofs.Finishes.{written-put}
+use Rattle.engine.proofs.finish.post.Statement.{statement}
+use Rattle.engine.proofs.finish.post.Tie as tie
+
+returns : tie.Need-returns
+returns c =
+    let w = c .before .before in
+    let s = w .before .before .before .before .before .before .before in
+    let m = s .args .memory .now in
+    let p = s .args .p in
+    let o = p .queue .ring .base + 16 * p .queue .ring .tail in
+    let e = completion (s .args .result) (p .sqhd) (p .command .sq) (p .command .cid) (s .args .status) in
+    let room : o + 16 ≤ length m = omega (arith, s .pre) in
+    written-put m o e _ room (s .pre .2) (w .write .ensures .1)
+
+pub post-spec : {M : Type 1} → statement M
+post-spec =
+    tie.close
+    (tie.spec
+    (λ c. search needs)
+    (λ c. search needs)
+    (λ c. search needs)
+    (λ c. search needs)
+    (λ c. search needs)
+    (λ c. search needs)
+    (λ c. search needs)
+    (λ c. search needs)
+    (λ c κs. search needs)
+    (λ c. search needs)
+    returns)
