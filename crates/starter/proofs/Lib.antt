@@ -1,0 +1,4 @@
+pub mod Surveys
+pub mod Verdicts
+pub mod Heads
+pub mod Takings

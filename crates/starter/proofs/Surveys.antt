@@ -1,0 +1,62 @@
+-- Laws of the survey: one queue more. Assumes nothing.
+use Prim.Native.Nat.{ℕ, _+_}
+use mathlib.Core.Bool.{Bool, true, false, _&&_, _||_}
+use mathlib.Core.List.{List}
+use mathlib.Core.Logic.{⊎-elim}
+use mathlib.Core.Path.{_≡_, sym, ap, _∙_}
+use native.Mathlib.Omega.{arith}
+use lib.Dec.{eqb}
+use lib.ListN.{getD}
+use borrow.Author.Count.{below-more}
+use Rattle.rules.proofs.Tests.{bool-cases}
+use Rattle.bits.specs.Bits.{someBelow}
+use Rattle.bits.proofs.Masks.{mask-lt}
+use Rattle.bits.proofs.Some.{some-found, some-none, some-which, none-some}
+use Rattle.controller.specs.declared.SubmissionQueue.{SubmissionQueue}
+use Rattle.controller.specs.State.{noSq}
+use Rattle.controller.specs.Starting.{candidate}
+use Rattle.queues.specs.Rings.{existing, endsPast}
+use Rattle.starter.specs.declared.survey.Survey.{Survey}
+use Rattle.starter.specs.Survey.{surveyed, candidateOf, Grown, Below}
+
+-- one number more
+some-next : (p : ℕ → Bool) (i : ℕ) → someBelow (i + 1) p ≡ (someBelow i p || p i)
+some-next p i =
+    ⊎-elim
+    (λ (e : someBelow i p ≡ true). let w = some-which i p e in rw e (some-found (i + 1) p (w .0) (omega (arith, w .1)) (w .2)))
+    (λ (e : someBelow i p ≡ false).
+    rw e
+    (⊎-elim (λ (y : p i ≡ true). some-found (i + 1) p i (omega arith) y ∙ sym y)
+    (λ (n : p i ≡ false). some-none (i + 1) p (below-more _ _ (none-some i p e) n) ∙ sym n) (bool-cases (p i)))) (bool-cases (someBelow i p))
+
+-- a survey of the queues below i has no bit from i on
+pub survey-below : (qs : List SubmissionQueue) (n i : ℕ) → Below (surveyed qs n i .candidates) i
+unfolding surveyed
+survey-below qs n i =
+    record { all = mask-lt _ i; urgent = mask-lt _ i; high = mask-lt _ i; medium = mask-lt _ i; low = mask-lt _ i }
+
+-- a survey with queue i
+module _ (qs : List SubmissionQueue) (n i : ℕ) {s : Survey} (e : s ≡ surveyed qs n i) {q : SubmissionQueue} (f : q ≡ getD qs i noSq) where
+  pub survey-next : {o : Bool} → o ≡ existing (endsPast n) 64 (q .ring) → {w : Bool} → w ≡ candidate q → {a u h m l : ℕ}
+      → Grown i (s .candidates .all) w a
+      → Grown i (s .candidates .urgent) (w && eqb (q .class) 0) u
+      → Grown i (s .candidates .high) (w && eqb (q .class) 1) h
+      → Grown i (s .candidates .medium) (w && eqb (q .class) 2) m
+      → Grown i (s .candidates .low) (w && eqb (q .class) 3) l
+      → _≡_ {A = Survey}
+      (record { outside = s .outside || o; candidates = record { all = a; urgent = u; high = h; medium = m; low = l } })
+      (surveyed qs n (i + 1))
+  unfolding surveyed
+  survey-next x {w} y ga gu gh gm gl =
+      let of : (k : ℕ) → (w && eqb (q .class) k) ≡ candidateOf k (getD qs i noSq) = λ k. rw (y, f) in
+      rw (
+        ga (λ j. candidate (getD qs j noSq)) (ap (λ (z : Survey). z .candidates .all) e) (y ∙ ap candidate f),
+        gu (λ j. candidateOf 0 (getD qs j noSq)) (ap (λ (z : Survey). z .candidates .urgent) e) (of 0),
+        gh (λ j. candidateOf 1 (getD qs j noSq)) (ap (λ (z : Survey). z .candidates .high) e) (of 1),
+        gm (λ j. candidateOf 2 (getD qs j noSq)) (ap (λ (z : Survey). z .candidates .medium) e) (of 2),
+        gl (λ j. candidateOf 3 (getD qs j noSq)) (ap (λ (z : Survey). z .candidates .low) e) (of 3),
+        some-next (λ j. existing (endsPast n) 64 (getD qs j noSq .ring)) i,
+        x,
+        f,
+        e,
+      )
