@@ -1,0 +1,310 @@
+//! Counts what a script reaches. The answers are the oracle's own.
+
+use crate::arbiter::Candidates;
+use crate::console::{lines, Console, Outcome, FORMS};
+use crate::line::{number, words};
+use crate::model::{CID_CONFLICT, FAILED_FUSED, INVALID_FIELD, MISSING_FUSED, TAGS};
+use std::collections::BTreeMap;
+use std::fmt::Write;
+
+/// Everything counted under a name, for mechanism 0 and for mechanism 1.
+const EVENTS: [&str; 30] = [
+    "create: accepted",
+    "create: two or more faults at once",
+    "finish: 02h posted",
+    "finish: 03h posted",
+    "finish: 09h posted for a failed first half",
+    "finish: 0Ah posted",
+    "finish: CQ wraps",
+    "finish: first half",
+    "finish: given status posted",
+    "finish: second half, first half's tag held by another",
+    "finish: status overruled by a verdict",
+    "reader: over the wrap",
+    "reader: some waiting",
+    "start: 13 with no tag free",
+    "start: 13 with one tag free",
+    "start: candidates in two levels",
+    "start: credits refilled",
+    "start: four candidates or more",
+    "start: pair over the wrap",
+    "start: pair with a verdict",
+    "start: pair, verdict 0",
+    "start: ring of 1,024 entries",
+    "start: SQ wraps",
+    "start: verdict 0",
+    "start: verdict 02h",
+    "start: verdict 03h",
+    "start: verdict 0Ah",
+    "tail: marks",
+    "tail: same value",
+    "walk: pointer read",
+];
+
+/// Starts under each burst number of the feature word.
+const BURSTS: [&str; 8] = [
+    "start: burst 0",
+    "start: burst 1",
+    "start: burst 2",
+    "start: burst 3",
+    "start: burst 4",
+    "start: burst 5",
+    "start: burst 6",
+    "start: burst 7",
+];
+
+#[derive(Default)]
+struct Cover {
+    console: Option<Console>,
+    lines: u64,
+    bad: u64,
+    silent: u64,
+    /// For each command the calls made and those accepted.
+    calls: BTreeMap<&'static str, [u64; 2]>,
+    /// For each refusal number and command the count.
+    refusals: BTreeMap<u64, BTreeMap<&'static str, u64>>,
+    events: BTreeMap<&'static str, [u64; 2]>,
+    /// For each second half outstanding the tag that its first half was given.
+    firsts: BTreeMap<u64, u64>,
+}
+
+/// The table for a script.
+pub fn table(script: &[u8]) -> String {
+    let mut cover = Cover { console: Some(Console::new()), ..Cover::default() };
+    for event in EVENTS.into_iter().chain(BURSTS) {
+        cover.events.insert(event, [0; 2]);
+    }
+    for (line, ended) in lines(script) {
+        cover.take(line, ended);
+    }
+    cover.print()
+}
+
+/// The numbers after the command's word, of a line that was no bad one.
+fn arguments(line: &[u8], ended: bool) -> Vec<u64> {
+    let words = words(line, ended).unwrap_or_default();
+    words.iter().skip(1).filter_map(|word| number(word)).collect()
+}
+
+impl Cover {
+    fn count(&mut self, console: &Console, event: &'static str) {
+        let counts = self.events.entry(event).or_default();
+        counts[console.controller.arbiter().mechanism() as usize] += 1;
+    }
+
+    fn take(&mut self, line: &[u8], ended: bool) {
+        let Some(mut console) = self.console.take() else { return };
+        let asked = arguments(line, ended);
+        self.before(&console, line, &asked);
+        let free = console.controller.free_tags().count();
+        let credits: u64 = console.controller.arbiter().credits().iter().sum();
+        let candidates = console.controller.candidates();
+        let verdict = asked.first().and_then(|tag| verdict(&console, *tag));
+        self.lines += 1;
+        match console.take(line, ended) {
+            Outcome::Silent => self.silent += 1,
+            Outcome::Bad(_) => self.bad += 1,
+            Outcome::Bytes(_) => self.call("peek", 0),
+            Outcome::Numbers(name, answer) => {
+                let plain = name.starts_with("show")
+                    || name.starts_with("poke")
+                    || name == "lend"
+                    || name == "fill";
+                self.call(name, if plain { 0 } else { answer[0] });
+                match name {
+                    "start" => {
+                        self.started(&console, &answer, free);
+                        self.arbitrated(&console, answer[0], credits, candidates);
+                    }
+                    "tail" if answer[0] == 10 => self.count(&console, "tail: marks"),
+                    "finish" if answer[0] == 0 => {
+                        self.finished(&console, &asked, answer[1], verdict)
+                    }
+                    "waiting" if answer[0] == 0 => self.read(&console, &asked, answer[1]),
+                    "walk" if answer[0] == 0 && answer[2] >= answer[1] => {
+                        self.count(&console, "walk: pointer read")
+                    }
+                    "create-cq" | "create-sq" if answer[0] == 0 => {
+                        self.count(&console, "create: accepted")
+                    }
+                    "controller" => self.firsts.clear(),
+                    _ => {}
+                }
+            }
+        }
+        self.console = Some(console);
+    }
+
+    fn call(&mut self, name: &'static str, refusal: u64) {
+        let counts = self.calls.entry(name).or_default();
+        counts[0] += 1;
+        if refusal == 0 {
+            counts[1] += 1;
+        } else {
+            *self.refusals.entry(refusal).or_default().entry(name).or_default() += 1;
+        }
+    }
+
+    /// What can only be told from the state before the call.
+    fn before(&mut self, console: &Console, line: &[u8], asked: &[u64]) {
+        let controller = &console.controller;
+        let faults = match (line, asked) {
+            ([b'c', b'r', ..], [id, size, base]) => {
+                controller.create_cq_faults(console.lent, *id, *size, *base)
+            }
+            ([b'c', b'r', ..], [id, size, base, cq, class]) => {
+                controller.create_sq_faults(console.lent, *id, *size, *base, *cq, *class)
+            }
+            ([b't', ..], [id, value]) => {
+                if controller.sq(*id).is_some_and(|sq| sq.tail == *value && !sq.marked) {
+                    self.count(console, "tail: same value");
+                }
+                return;
+            }
+            _ => return,
+        };
+        if faults.iter().filter(|(_, applies)| *applies).count() > 1 {
+            self.count(console, "create: two or more faults at once");
+        }
+    }
+
+    fn started(&mut self, console: &Console, answer: &[u64], free: usize) {
+        let [refusal, id, count, tag, second, slot, verdict] = *answer else { return };
+        if refusal == 13 {
+            let event = if free == 0 {
+                "start: 13 with no tag free"
+            } else {
+                "start: 13 with one tag free"
+            };
+            self.count(console, event);
+        }
+        let Some(sq) = console.controller.sq(id).filter(|_| refusal == 0) else { return };
+        let burst = console.controller.arbiter().word() % 8;
+        self.count(console, BURSTS[burst as usize]);
+        if sq.head < slot {
+            self.count(console, "start: SQ wraps");
+        }
+        if sq.size == 1024 {
+            self.count(console, "start: ring of 1,024 entries");
+        }
+        match verdict {
+            INVALID_FIELD => self.count(console, "start: verdict 02h"),
+            CID_CONFLICT => self.count(console, "start: verdict 03h"),
+            MISSING_FUSED => self.count(console, "start: verdict 0Ah"),
+            _ => self.count(console, "start: verdict 0"),
+        }
+        if count == 2 {
+            self.firsts.insert(second, tag);
+            let sound =
+                if verdict == 0 { "start: pair, verdict 0" } else { "start: pair with a verdict" };
+            self.count(console, sound);
+            if slot == sq.size - 1 {
+                self.count(console, "start: pair over the wrap");
+            }
+        }
+    }
+
+    /// What the choice was made from.
+    fn arbitrated(
+        &mut self,
+        console: &Console,
+        refusal: u64,
+        credits: u64,
+        candidates: Candidates,
+    ) {
+        if refusal != 0 {
+            return;
+        }
+        if candidates.iter().flatten().count() >= 4 {
+            self.count(console, "start: four candidates or more");
+        }
+        let levels = (1..=3).filter(|class| candidates[1..].contains(&Some(*class))).count();
+        if levels >= 2 {
+            self.count(console, "start: candidates in two levels");
+        }
+        if console.controller.arbiter().credits().iter().sum::<u64>() > credits {
+            self.count(console, "start: credits refilled");
+        }
+    }
+
+    fn finished(
+        &mut self,
+        console: &Console,
+        asked: &[u64],
+        slot: u64,
+        verdict: Option<(usize, u64)>,
+    ) {
+        let [tag, status, _] = *asked else { return };
+        let Some((sq, verdict)) = verdict else { return };
+        self.count(
+            console,
+            match verdict {
+                INVALID_FIELD => "finish: 02h posted",
+                CID_CONFLICT => "finish: 03h posted",
+                FAILED_FUSED => "finish: 09h posted for a failed first half",
+                MISSING_FUSED => "finish: 0Ah posted",
+                _ => "finish: given status posted",
+            },
+        );
+        if verdict != 0 && status != 0 {
+            self.count(console, "finish: status overruled by a verdict");
+        }
+        let cq = console.controller.sqs[sq]
+            .as_ref()
+            .and_then(|sq| console.controller.cqs[sq.cq].as_ref());
+        if cq.is_some_and(|cq| slot == cq.size - 1) {
+            self.count(console, "finish: CQ wraps");
+        }
+        if self.firsts.values().any(|first| *first == tag) {
+            self.count(console, "finish: first half");
+        }
+        if let Some(first) = self.firsts.remove(&tag) {
+            if console.controller.tags[first as usize].is_some() {
+                self.count(console, "finish: second half, first half's tag held by another");
+            }
+        }
+    }
+
+    fn read(&mut self, console: &Console, asked: &[u64], count: u64) {
+        if count > 0 {
+            self.count(console, "reader: some waiting");
+        }
+        if asked[3] + count > asked[2] {
+            self.count(console, "reader: over the wrap");
+        }
+    }
+
+    fn print(&self) -> String {
+        let mut out = String::new();
+        let _ =
+            writeln!(out, "lines {}, bad {}, without a word {}", self.lines, self.bad, self.silent);
+        let _ = writeln!(out, "\n{:<12} {:>9} {:>9}", "command", "calls", "accepted");
+        for form in FORMS {
+            let [calls, accepted] = self.calls.get(form.name).copied().unwrap_or_default();
+            let _ = writeln!(out, "{:<12} {calls:>9} {accepted:>9}", form.name);
+        }
+        let calls: u64 = self.calls.values().map(|counts| counts[0]).sum();
+        let accepted: u64 = self.calls.values().map(|counts| counts[1]).sum();
+        let _ = writeln!(out, "{:<12} {calls:>9} {accepted:>9}", "all");
+        let _ = writeln!(out, "\nrefusal      count  given by");
+        for refusal in 1..=23 {
+            let by = self.refusals.get(&refusal).cloned().unwrap_or_default();
+            let total: u64 = by.values().sum();
+            let names: Vec<String> =
+                by.iter().map(|(name, count)| format!("{name} {count}")).collect();
+            let _ = writeln!(out, "{refusal:>7} {total:>10}  {}", names.join(", "));
+        }
+        let _ = writeln!(out, "\n{:<54} {:>11} {:>11}", "event", "mechanism 0", "mechanism 1");
+        for (event, [round_robin, weighted]) in &self.events {
+            let _ = writeln!(out, "{event:<54} {round_robin:>11} {weighted:>11}");
+        }
+        out
+    }
+}
+
+/// The SQ and the verdict, with 09h from a failed first half on, of an outstanding command.
+fn verdict(console: &Console, tag: u64) -> Option<(usize, u64)> {
+    let tag = usize::try_from(tag).ok().filter(|tag| *tag < TAGS)?;
+    let command = console.controller.tags[tag].as_ref()?;
+    Some((command.sq, command.verdict))
+}

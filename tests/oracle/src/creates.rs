@@ -1,0 +1,224 @@
+//! Script lines that make controllers and queues, rightly and wrongly.
+
+use crate::console::MEMORY;
+use crate::entry::{COMPLETION, SUBMISSION};
+use crate::generate::{Generator, SCRATCH};
+use crate::ring::Extent;
+
+impl Generator {
+    /// A chapter's beginning.
+    pub fn open(&mut self) {
+        self.say(&format!("lend {MEMORY}"));
+        if self.random.chance(75) {
+            self.say(&format!("fill 0 {MEMORY} 0"));
+        }
+        let word = self.word();
+        let mechanism =
+            if self.random.chance(15) { self.random.edge() } else { self.random.below(2) };
+        if !self.say(&format!("controller {mechanism} {word}")) && self.random.chance(50) {
+            self.say(&format!("controller 1 {word}"));
+        }
+        // Few queues, several SQs on few CQs, or all sixteen.
+        let (cqs, sqs) = match self.random.weighted(&[35, 45, 10]) {
+            0 => (self.random.within(1, 2), self.random.within(1, 3)),
+            1 => (self.random.within(1, 2), self.random.within(3, 8)),
+            _ => (15, 15),
+        };
+        let sizes = self.random.weighted(&[60, 20, 12, 8]);
+        // With or without the Admin queues.
+        let first = u64::from(self.random.chance(30));
+        for id in first..=cqs {
+            self.create_cq(id, sizes);
+        }
+        for id in first..=sqs {
+            self.create_sq(id, sizes);
+            if self.random.chance(15) {
+                self.odd_create();
+            }
+        }
+    }
+
+    /// All bursts, small and large weights, and anything in the ignored bits.
+    fn word(&mut self) -> u64 {
+        let mut word = self.random.below(8) + 8 * self.random.below(4).saturating_sub(2);
+        for shift in [8, 16, 24] {
+            let weight =
+                if self.random.chance(75) { self.random.below(4) } else { self.random.below(256) };
+            word += weight << shift;
+        }
+        word
+    }
+
+    fn size(&mut self, sizes: usize) -> u64 {
+        match sizes {
+            0 => self.random.within(2, 8),
+            1 => self.random.within(2, 40),
+            2 => self.random.pick(&[2, 3, 5, 63, 64, 65, 100, 128, 256, 257]),
+            _ => self.random.pick(&[1024, 1024, 1023, 8, 4]),
+        }
+    }
+
+    fn create_cq(&mut self, id: u64, sizes: usize) {
+        let size = self.size(sizes);
+        let base = self.free_base(size, COMPLETION);
+        self.say(&format!("create-cq {id} {size} {base}"));
+    }
+
+    fn create_sq(&mut self, id: u64, sizes: usize) {
+        let size = self.size(sizes);
+        let base = self.free_base(size, SUBMISSION);
+        let cq = self.fitting_cq(id);
+        let class = self.random.below(4);
+        self.say(&format!("create-sq {id} {size} {base} {cq} {class}"));
+    }
+
+    /// CQ 0 for SQ 0, any other existing one for another SQ.
+    fn fitting_cq(&mut self, sq: u64) -> u64 {
+        let cqs: Vec<u64> =
+            (1..16).filter(|id| self.console.controller.cq(*id).is_some()).collect();
+        match self.random.choose(&cqs) {
+            Some(cq) if sq != 0 => cq,
+            _ => u64::from(sq != 0),
+        }
+    }
+
+    /// The ends of existing rings, each brought up to a multiple of 4,096.
+    fn pages_after_rings(&self) -> Vec<u64> {
+        let rings = self.console.controller.rings();
+        rings.map(|ring| (ring.end() as u64).next_multiple_of(4096)).collect()
+    }
+
+    /// A base where a ring of this size shares no byte with another, if one is soon found.
+    fn free_base(&mut self, size: u64, entry: usize) -> u64 {
+        let mut base = 0;
+        for _ in 0..30 {
+            base = match self.random.choose(&self.pages_after_rings()) {
+                Some(page) if self.random.chance(40) => page,
+                _ => 4096 * self.random.below(SCRATCH / 4096),
+            };
+            let new = Extent::new(base, size, entry);
+            let free = !self.console.controller.rings().any(|old| old.shares_a_byte(&new));
+            if free && new.lies_in(SCRATCH as usize) {
+                break;
+            }
+        }
+        base
+    }
+
+    /// A create of which each number is right or wrong by itself, so that faults meet.
+    pub fn odd_create(&mut self) {
+        let for_cq = self.random.chance(45);
+        let entry = if for_cq { COMPLETION } else { SUBMISSION };
+        let id = self.odd_id(for_cq);
+        let size = if self.random.chance(70) {
+            self.random.pick(&[2, 3, 4, 8, 63, 64, 65, 256, 257, 1024])
+        } else {
+            let edge = self.random.edge();
+            self.random.pick(&[0, 1, 1025, 65_538, (1 << 32) + 2, u64::MAX, edge])
+        };
+        let base = self.odd_base(size, entry);
+        if for_cq {
+            self.say(&format!("create-cq {id} {size} {base}"));
+            return;
+        }
+        let edge = self.random.edge();
+        let cq = match self.random.weighted(&[80, 8, 6, 6]) {
+            0 => self.fitting_cq(id),
+            1 => self.random.below(16),
+            2 => self.random.pick(&[0, 16, 17, 255, 256]),
+            _ => edge,
+        };
+        let class = if self.random.chance(85) {
+            self.random.below(4)
+        } else {
+            self.random.pick(&[4, 5, 255, 256, edge])
+        };
+        self.say(&format!("create-sq {id} {size} {base} {cq} {class}"));
+    }
+
+    /// Mostly an id without a queue, else one with a queue, or one above 15.
+    fn odd_id(&mut self, for_cq: bool) -> u64 {
+        let controller = &self.console.controller;
+        let exists = |id: &u64| {
+            if for_cq {
+                controller.cq(*id).is_some()
+            } else {
+                controller.sq(*id).is_some()
+            }
+        };
+        let (taken, free): (Vec<u64>, Vec<u64>) = (0..16).partition(exists);
+        let edge = self.random.edge();
+        let found = match self.random.weighted(&[80, 11, 9]) {
+            0 => self.random.choose(&free),
+            1 => self.random.choose(&taken),
+            _ => Some(self.random.pick(&[16, 17, 31, 256, 1 << 32, edge])),
+        };
+        found.unwrap_or(16)
+    }
+
+    /// A free place, one beside a page's edge, one over another ring, or one at or past the
+    /// lent memory's end.
+    fn odd_base(&mut self, size: u64, entry: usize) -> u64 {
+        let free = self.free_base(size, entry);
+        let lent = self.console.lent as u64;
+        let bytes = size.wrapping_mul(entry as u64);
+        match self.random.weighted(&[40, 18, 24, 18]) {
+            0 => free,
+            1 => free + self.random.pick(&[1, 16, 64, 512, 2048, 4095]),
+            2 => {
+                let starts: Vec<u64> =
+                    self.console.controller.rings().map(|ring| ring.start() as u64).collect();
+                let start = self.random.choose(&starts).unwrap_or(0);
+                let after = self.random.choose(&self.pages_after_rings()).unwrap_or(0);
+                let before = start.saturating_sub(4096);
+                self.random.pick(&[start, start, before, after.saturating_sub(4096), after])
+            }
+            _ => {
+                let edge = self.random.edge();
+                let fits = lent.wrapping_sub(bytes) / 4096 * 4096;
+                self.random.pick(&[
+                    fits,
+                    fits.wrapping_add(4096),
+                    lent,
+                    u64::MAX - 4095,
+                    1 << 63,
+                    edge,
+                ])
+            }
+        }
+    }
+
+    /// Lends less, so that rings, lists or parts lie outside; makes some calls; lends more.
+    pub fn shrink(&mut self) {
+        let rings: Vec<(u64, u64)> = self
+            .console
+            .controller
+            .rings()
+            .map(|ring| (ring.start() as u64, ring.end() as u64))
+            .collect();
+        let (start, end) = self.random.choose(&rings).unwrap_or((0, 4096));
+        let highest = rings.iter().map(|(_, end)| *end).max().unwrap_or(0);
+        let any = self.random.below(MEMORY as u64);
+        let choices = [end, end.saturating_sub(1), highest, highest.saturating_sub(1), any, 0];
+        let lent = self.random.pick(&choices);
+        self.say(&format!("lend {lent}"));
+        if self.random.chance(25) {
+            // Over a ring that may lie outside what is lent now, the new one inside it.
+            let id = self.odd_id(true);
+            self.say(&format!("create-cq {id} 2 {start}"));
+        }
+        for _ in 0..self.random.within(2, 8) {
+            match self.random.below(7) {
+                0 | 1 => {
+                    self.say("start");
+                }
+                2 | 3 => self.finish(),
+                4 => self.odd_create(),
+                5 => self.reader(),
+                _ => self.memory(),
+            }
+        }
+        let lent = if self.random.chance(80) { MEMORY as u64 } else { highest };
+        self.say(&format!("lend {lent}"));
+    }
+}

@@ -1,0 +1,172 @@
+//! Random scripts that aim at every rule. The generator feeds each line to the oracle's own
+//! console, so it always knows the state that the next line meets.
+
+use crate::console::{Console, Outcome, MEMORY};
+use crate::model::{Command, Part, Sq};
+use crate::random::Random;
+use crate::ring;
+
+/// Rings are mostly put below this address; lists, loose entries and other trials above it.
+pub const SCRATCH: u64 = 0xC_0000;
+
+pub struct Generator {
+    pub random: Random,
+    pub console: Console,
+    script: Vec<u8>,
+    lines: usize,
+    wanted: usize,
+    /// The last CID given out.
+    pub last_cid: u64,
+}
+
+/// What the traffic of a stretch of lines tends to.
+#[derive(Clone, Copy)]
+enum Mood {
+    Normal,
+    /// Starts and finishes nothing, until the tags run out.
+    Hoard,
+    /// Finishes but moves no head, until the CQs are full.
+    Stall,
+    /// Submits nothing.
+    Drain,
+}
+
+/// A script of about so many lines.
+pub fn script(seed: u64, lines: usize) -> Vec<u8> {
+    let mut generator = Generator {
+        random: Random::new(seed),
+        console: Console::new(),
+        script: Vec::new(),
+        lines: 0,
+        wanted: lines,
+        last_cid: 0,
+    };
+    while !generator.is_done() {
+        generator.chapter();
+    }
+    generator.last_line();
+    generator.script
+}
+
+impl Generator {
+    pub fn is_done(&self) -> bool {
+        self.lines >= self.wanted
+    }
+
+    /// Puts a line into the script as it stands.
+    pub fn raw(&mut self, line: &[u8]) -> Outcome {
+        self.script.extend_from_slice(line);
+        self.script.push(b'\n');
+        self.lines += 1;
+        self.console.take(line, true)
+    }
+
+    /// Puts a line into the script, now and then written in another way that means the same.
+    /// Answers whether the call was accepted.
+    pub fn say(&mut self, text: &str) -> bool {
+        let dressed = self.random.chance(5) && text.len() < 500;
+        let line = if dressed { self.dress(text) } else { text.as_bytes().to_vec() };
+        match self.raw(&line) {
+            Outcome::Numbers(_, numbers) => numbers[0] == 0,
+            _ => false,
+        }
+    }
+
+    /// Now and then the script ends in a line without LF.
+    fn last_line(&mut self) {
+        let last: &[u8] = self.random.pick(&[b"", b"", b"start", b"tail 0 0\r", b"# end", b" "]);
+        self.script.extend_from_slice(last);
+    }
+
+    /// A fresh controller with queues, and traffic on it in one mood after another.
+    fn chapter(&mut self) {
+        self.open();
+        for _ in 0..self.random.within(1, 6) {
+            let mood = [Mood::Normal, Mood::Hoard, Mood::Stall, Mood::Drain]
+                [self.random.weighted(&[50, 15, 20, 15])];
+            for _ in 0..self.random.within(10, 120) {
+                if self.is_done() {
+                    return;
+                }
+                self.step(mood);
+            }
+            if self.unmarked_sqs().is_empty() {
+                return;
+            }
+        }
+    }
+
+    fn step(&mut self, mood: Mood) {
+        if self.console.lent < MEMORY && self.random.chance(30) {
+            self.say(&format!("lend {MEMORY}"));
+        }
+        match self.random.weighted(&[500, 70, 32, 22, 36, 70, 40, 28, 60, 10, 6, 7, 3, 1, 6]) {
+            0 => self.traffic(mood),
+            1 => self.odd_create(),
+            2 => self.walks(),
+            3 => self.entries(),
+            4 => self.reader(),
+            5 => self.plain_check(),
+            6 => self.show(),
+            7 => self.memory(),
+            8 => self.noise(),
+            9 => self.shrink(),
+            10 => self.bad_tail(),
+            11 => self.stranger(),
+            12 => self.last_tag(),
+            13 => self.long_run(),
+            _ => self.crowd(),
+        }
+    }
+
+    fn traffic(&mut self, mood: Mood) {
+        let weights = match mood {
+            Mood::Normal => [28, 32, 26, 14],
+            Mood::Hoard => [35, 64, 1, 0],
+            Mood::Stall => [25, 35, 40, 0],
+            Mood::Drain => [2, 30, 40, 28],
+        };
+        match self.random.weighted(&weights) {
+            0 => self.submit(),
+            1 => self.start(),
+            2 => self.finish(),
+            _ => self.head(),
+        }
+    }
+
+    /// The SQs that still take tail writes.
+    pub fn unmarked_sqs(&self) -> Vec<usize> {
+        let sqs = self.console.controller.sqs.iter().enumerate();
+        let unmarked = sqs.filter(|(_, sq)| sq.as_ref().is_some_and(|sq| !sq.marked));
+        unmarked.map(|(id, _)| id).collect()
+    }
+
+    pub fn sq(&self, id: usize) -> Option<&Sq> {
+        self.console.controller.sqs[id].as_ref()
+    }
+
+    /// How many more entries the SQ can hold.
+    pub fn room(&self, id: usize) -> u64 {
+        self.sq(id).map_or(0, |sq| sq.size - 1 - ring::distance(sq.size, sq.head, sq.tail))
+    }
+
+    pub fn outstanding(&self) -> Vec<usize> {
+        (0..64).filter(|tag| self.console.controller.tags[*tag].is_some()).collect()
+    }
+
+    pub fn command(&self, tag: usize) -> Option<&Command> {
+        self.console.controller.tags[tag].as_ref()
+    }
+
+    /// Whether the command could be posted now: no first half before it, room in its CQ.
+    pub fn is_ready(&self, tag: usize) -> bool {
+        let Some(command) = self.command(tag) else { return false };
+        let Some(sq) = self.sq(command.sq) else { return false };
+        let Some(cq) = &self.console.controller.cqs[sq.cq] else { return false };
+        command.part != Part::SecondWaiting && !ring::is_full(cq.size, cq.head, cq.tail)
+    }
+
+    pub fn rings_are_lent(&self) -> bool {
+        self.console.controller.rings().all(|ring| ring.lies_in(self.console.lent))
+    }
+}

@@ -1,0 +1,410 @@
+//! Script lines that submit, start and finish commands and write doorbells.
+
+use crate::console::submission_numbers;
+use crate::entry::{Submission, SUBMISSION};
+use crate::generate::Generator;
+use crate::model::Part;
+use crate::ring;
+
+impl Generator {
+    /// Writes some entries behind an SQ's tail and moves the tail over them, in one write or
+    /// in two with starts between them.
+    pub fn submit(&mut self) {
+        let open: Vec<usize> =
+            self.unmarked_sqs().into_iter().filter(|id| self.room(*id) > 0).collect();
+        match self.random.choose(&open) {
+            Some(id) => {
+                let room = self.room(id);
+                let most = match self.random.weighted(&[35, 50, 15]) {
+                    0 => self.random.within(1, 2),
+                    1 => self.random.within(2, 5),
+                    _ => self.random.within(1, 12),
+                };
+                self.submit_to(id, room.min(most));
+            }
+            None if self.random.chance(10) => self.tail(),
+            None => self.finish(),
+        }
+    }
+
+    /// Submits up to so many entries to the SQ.
+    pub fn submit_to(&mut self, id: usize, most: u64) {
+        let mut entries = Vec::new();
+        while (entries.len() as u64) < most {
+            let left = most - entries.len() as u64;
+            self.add_commands(id, left, &mut entries);
+        }
+        self.submit_entries(id, &entries);
+    }
+
+    pub fn submit_entries(&mut self, id: usize, entries: &[Submission]) {
+        let Some(sq) = self.sq(id) else { return };
+        let (base, size, tail) = (sq.base, sq.size, sq.tail);
+        for (step, entry) in entries.iter().enumerate() {
+            let slot = (tail + step as u64) % size;
+            // Now and then what the slot held before stays.
+            if !self.random.chance(3) {
+                self.put_entry(base + slot * SUBMISSION as u64, entry);
+            }
+        }
+        let count = entries.len() as u64;
+        if count > 1 && self.random.chance(30) {
+            let part = self.random.within(1, count - 1);
+            self.say(&format!("tail {id} {}", (tail + part) % size));
+            for _ in 0..self.random.below(3) {
+                self.say("start");
+            }
+        }
+        self.say(&format!("tail {id} {}", (tail + count) % size));
+    }
+
+    /// Adds one command, one pair or one broken pair to a batch, of at most `left` entries.
+    fn add_commands(&mut self, id: usize, left: u64, entries: &mut Vec<Submission>) {
+        let pairs = if id == 0 { 3 } else { 45 };
+        match self.random.weighted(&[50, pairs, 4, 4, 3, 6]) {
+            1 if left >= 2 => entries.extend(self.pair(id)),
+            2 => entries.push(self.fused(id, 1)),
+            3 => entries.push(self.fused(id, 2)),
+            4 => entries.push(self.fused(id, 3)),
+            5 if left >= 3 => {
+                entries.push(self.fused(id, 1));
+                entries.extend(self.pair(id));
+            }
+            _ => entries.push(self.fused(id, 0)),
+        }
+    }
+
+    /// A command with this FUSE.
+    fn fused(&mut self, id: usize, fuse: u64) -> Submission {
+        let any = self.random.below(256);
+        Submission {
+            opc: self.random.pick(&[0, 1, 2, 5, any]),
+            fuse,
+            psdt: if self.random.chance(5) { self.random.within(1, 3) } else { 0 },
+            cid: self.cid(id),
+            nsid: self.random.pick(&[1, 1, 2, 0xFFFF_FFFF]),
+            mptr: self.random.edge(),
+            prp1: self.random.edge(),
+            prp2: self.random.edge(),
+            slba: self.random.edge(),
+            nlb: self.random.below(65_536),
+            cdw12h: self.random.below(65_536),
+            cdw13: self.random.below(1 << 32),
+            cdw14: self.random.below(1 << 32),
+            cdw15: self.random.below(1 << 32),
+        }
+    }
+
+    /// Mostly a new CID, else one of an outstanding command of this or of another SQ.
+    fn cid(&mut self, id: usize) -> u64 {
+        if self.random.chance(8) {
+            let tags = self.outstanding();
+            let own: Vec<usize> = tags
+                .iter()
+                .copied()
+                .filter(|tag| self.command(*tag).is_some_and(|c| c.sq == id))
+                .collect();
+            let from = if self.random.chance(70) { own } else { tags };
+            if let Some(command) = self.random.choose(&from).and_then(|tag| self.command(tag)) {
+                return command.cid;
+            }
+        }
+        self.last_cid = (self.last_cid + 1) % 65_536;
+        self.last_cid
+    }
+
+    /// Compare and Write, sound or damaged in one field or two.
+    pub fn pair(&mut self, id: usize) -> [Submission; 2] {
+        let mut first = self.fused(id, 1);
+        let mut second = self.fused(id, 2);
+        (first.opc, second.opc) = (5, 1);
+        (second.nsid, second.slba, second.nlb) = (first.nsid, first.slba, first.nlb);
+        (first.psdt, second.psdt) = (0, 0);
+        if self.random.chance(40) {
+            self.damage(&mut first, &mut second);
+            if self.random.chance(20) {
+                self.damage(&mut first, &mut second);
+            }
+        }
+        [first, second]
+    }
+
+    fn damage(&mut self, first: &mut Submission, second: &mut Submission) {
+        match self.random.below(10) {
+            0 => first.opc = self.random.below(256),
+            1 => second.opc = self.random.below(256),
+            2 => std::mem::swap(&mut first.opc, &mut second.opc),
+            3 => second.nsid ^= 1 << self.random.below(32),
+            4 => second.slba ^= 1 << self.random.below(64),
+            5 => second.nlb ^= 1 << self.random.below(16),
+            6 => first.psdt = self.random.within(1, 3),
+            7 => second.psdt = self.random.within(1, 3),
+            8 => second.cid = first.cid,
+            _ => second.cid ^= 1 << self.random.below(16),
+        }
+    }
+
+    /// Puts an entry into a slot by one of three commands; the pokes also set reserved bits.
+    fn put_entry(&mut self, at: u64, entry: &Submission) {
+        if self.random.chance(80) {
+            let mut numbers = submission_numbers(entry);
+            if self.random.chance(10) {
+                // "FUSE and PSDT numbers are taken modulo 4".
+                numbers[1] += 4 * self.random.below(1 << 40);
+                numbers[2] += 4 * self.random.below(1 << 40);
+            }
+            let room = if self.random.chance(90) { 64 } else { self.random.within(64, 128) };
+            self.say(&format!("write-sqe {at} {room}{}", joined(&numbers)));
+            return;
+        }
+        let mut bytes = [0; SUBMISSION];
+        if entry.write(&mut bytes).is_ok() {
+            bytes[1] |= (self.random.bits() & 0x3C) as u8;
+            bytes[8..16].copy_from_slice(&self.random.bits().to_le_bytes());
+        }
+        if self.random.chance(50) {
+            self.say(&format!("poke {at}{}", joined(&bytes.map(u64::from))));
+        } else {
+            let numbers: Vec<u64> =
+                (0..8).map(|place| crate::entry::get(&bytes, 8 * place, 8)).collect();
+            self.say(&format!("poke64 {at}{}", joined(&numbers)));
+        }
+    }
+
+    pub fn start(&mut self) {
+        let controller = &self.console.controller;
+        let waits = controller.candidates().iter().any(Option::is_some);
+        let full = controller.free_tags().next().is_none();
+        let sure = waits && !full && self.rings_are_lent();
+        if sure || self.random.chance(if full { 40 } else { 15 }) {
+            self.say("start");
+        } else if !waits {
+            self.submit();
+        } else {
+            self.finish();
+        }
+    }
+
+    /// Finishes a command, mostly one that can be posted.
+    pub fn finish(&mut self) {
+        let tags = self.outstanding();
+        let (ready, unready): (Vec<usize>, Vec<usize>) =
+            tags.iter().partition(|tag| self.is_ready(**tag));
+        let found = match self.random.weighted(&[82, 18]) {
+            0 => self.random.choose(&ready),
+            _ => self.random.choose(&unready),
+        };
+        let free: Vec<usize> = self.console.controller.free_tags().collect();
+        let tag = match found {
+            Some(tag) => tag as u64,
+            None if self.random.chance(25) => match self.random.choose(&free) {
+                Some(free) if self.random.chance(60) => free as u64,
+                _ => self.random.pick(&[64, 65, 1 << 32, u64::MAX]),
+            },
+            None => match self.random.choose(&unready) {
+                Some(unready) if self.random.chance(40) => unready as u64,
+                _ => return self.head(),
+            },
+        };
+        self.finish_tag(tag);
+    }
+
+    fn finish_tag(&mut self, tag: u64) {
+        let any = self.random.below(32_768);
+        let edge = self.random.edge();
+        let status = match self.random.weighted(&[58, 40, 2]) {
+            0 => 0,
+            1 => self.random.pick(&[1, 2, 9, 0x285, 0x4002, 32_767, any]),
+            _ => self.random.pick(&[32_768, 65_536, 1 << 32, u64::MAX, edge]),
+        };
+        let result = self.random.bits() >> self.random.within(32, 63);
+        self.say(&format!("finish {tag} {status} {result}"));
+        if self.random.chance(12) {
+            self.show_last_posting();
+        }
+    }
+
+    /// Looks at the bytes of the entry before the tail of some CQ.
+    fn show_last_posting(&mut self) {
+        let id = self.random.below(16);
+        if let Some(cq) = self.console.controller.cq(id) {
+            let at = cq.base + 16 * ((cq.tail + cq.size - 1) % cq.size);
+            self.say(&format!("peek {at} 16"));
+        }
+    }
+
+    /// Takes completions off a CQ, mostly rightly.
+    pub fn head(&mut self) {
+        let held = |id: &u64| self.console.controller.cq(*id).is_some_and(|cq| cq.head != cq.tail);
+        let full: Vec<u64> = (0..16).filter(held).collect();
+        if self.random.chance(12) {
+            return self.odd_head();
+        }
+        let Some(id) = self.random.choose(&full) else { return self.plain_check() };
+        let Some(cq) = self.console.controller.cq(id) else { return };
+        let (size, head) = (cq.size, cq.head);
+        let waiting = ring::distance(size, head, cq.tail);
+        let step = if self.random.chance(50) { waiting } else { self.random.within(0, waiting) };
+        self.say(&format!("head {id} {}", (head + step) % size));
+    }
+
+    fn odd_head(&mut self) {
+        let id = if self.random.chance(80) { self.random.below(16) } else { self.random.edge() };
+        let (size, tail) = self.console.controller.cq(id).map_or((4, 0), |cq| (cq.size, cq.tail));
+        let edge = self.random.edge();
+        let any = self.random.below(size);
+        let value = self.random.pick(&[size, (tail + 1) % size, any, any, u64::MAX, edge]);
+        self.say(&format!("head {id} {value}"));
+        if id < 16 && self.random.chance(50) {
+            self.say(&format!("show-cq {id}"));
+        }
+    }
+
+    /// A tail write of the value held, of any SQ, marked or not there.
+    fn tail(&mut self) {
+        let id = if self.random.chance(85) { self.random.below(16) } else { self.random.edge() };
+        let tail = self.console.controller.sq(id).map_or(0, |sq| sq.tail);
+        self.say(&format!("tail {id} {tail}"));
+    }
+
+    /// A tail write that is likely to be refused and to mark the SQ, and what comes after.
+    pub fn bad_tail(&mut self) {
+        self.tail();
+        let unmarked = self.unmarked_sqs();
+        if unmarked.len() < 2 && self.random.chance(70) {
+            return;
+        }
+        let Some(id) = self.random.choose(&unmarked) else { return };
+        let Some(sq) = self.sq(id) else { return };
+        let (size, head, tail) = (sq.size, sq.head, sq.tail);
+        let edge = self.random.edge();
+        let any = self.random.below(size);
+        let value = self.random.pick(&[
+            size,
+            size + 1,
+            head,
+            (tail + size - 1) % size,
+            any,
+            u64::MAX,
+            edge,
+        ]);
+        self.say(&format!("tail {id} {value}"));
+        if self.random.chance(50) {
+            let again = self.random.pick(&[tail, value]);
+            self.say(&format!("tail {id} {again}"));
+        }
+        self.say(&format!("show-sq {id}"));
+        self.start();
+    }
+
+    /// Finishes a first half, lets another command take its tag, then finishes the second.
+    pub fn stranger(&mut self) {
+        let pairs: Vec<(usize, usize)> =
+            self.outstanding().iter().filter_map(|tag| self.second_of(*tag)).collect();
+        let Some((first, second)) = self.random.choose(&pairs) else { return };
+        if !self.is_ready(first) {
+            return self.head();
+        }
+        let status = self.random.pick(&[0, 0, 1, 0x285]);
+        self.say(&format!("finish {first} {status} 0"));
+        for _ in 0..8 {
+            if self.command(first).is_some() {
+                break;
+            }
+            self.start();
+        }
+        self.say(&format!("show-tag {second}"));
+        self.finish_tag(second as u64);
+    }
+
+    /// A first half's tag with that of its second half.
+    fn second_of(&self, tag: usize) -> Option<(usize, usize)> {
+        match self.command(tag)?.part {
+            Part::First(second) => Some((tag, second)),
+            _ => None,
+        }
+    }
+
+    /// Leaves one tag free and brings a pair before it.
+    pub fn last_tag(&mut self) {
+        let able: Vec<usize> = self.unmarked_sqs().into_iter().filter(|id| *id != 0).collect();
+        let Some(id) = self.random.choose(&able) else { return };
+        for _ in 0..200 {
+            let waits = self.console.controller.candidates().iter().any(Option::is_some);
+            if self.console.controller.free_tags().count() <= 1 && !waits {
+                break;
+            }
+            if !waits {
+                let entry = self.fused(id, 0);
+                self.submit_entries(id, &[entry]);
+            }
+            if !self.say("start") {
+                break;
+            }
+        }
+        if self.room(id) >= 2 {
+            let pair = self.pair(id);
+            self.submit_entries(id, &pair);
+            self.say("start");
+            self.finish();
+            self.say("start");
+        }
+    }
+
+    /// Fills every SQ and starts until all are empty, so that turns, bursts and credits are
+    /// seen at work; now and then an SQ gets more meanwhile.
+    pub fn crowd(&mut self) {
+        for id in self.unmarked_sqs() {
+            let most = self.random.within(1, 9).min(self.room(id));
+            self.submit_to(id, most);
+        }
+        for _ in 0..120 {
+            if self.is_done() || !self.say("start") {
+                break;
+            }
+            if self.outstanding().len() > 50 {
+                self.finish_all();
+            }
+            if self.random.chance(6) {
+                self.submit();
+            }
+            if self.random.chance(20) {
+                self.finish();
+            }
+        }
+    }
+
+    /// Sends an SQ, most likely a large one, once around its ring with what its slots hold.
+    pub fn long_run(&mut self) {
+        let Some(id) = self.random.choose(&self.unmarked_sqs()) else { return };
+        let size = self.sq(id).map_or(0, |sq| sq.size);
+        for _ in 0..size / 50 + 1 {
+            if self.is_done() || self.unmarked_sqs().is_empty() {
+                return;
+            }
+            let step = self.room(id).min(50);
+            let tail = self.sq(id).map_or(0, |sq| sq.tail);
+            self.say(&format!("tail {id} {}", (tail + step) % size.max(1)));
+            while self.say("start") {}
+            self.finish_all();
+        }
+    }
+
+    /// Finishes every command in rising order of tags, taking completions off full CQs.
+    fn finish_all(&mut self) {
+        for tag in self.outstanding() {
+            let Some(command) = self.command(tag) else { continue };
+            let cq = self.sq(command.sq).map_or(0, |sq| sq.cq);
+            if !self.is_ready(tag) {
+                let tail = self.console.controller.cqs[cq].as_ref().map_or(0, |cq| cq.tail);
+                self.say(&format!("head {cq} {tail}"));
+            }
+            self.say(&format!("finish {tag} 0 {tag}"));
+        }
+    }
+}
+
+/// The numbers, each after a space.
+pub fn joined(numbers: &[u64]) -> String {
+    numbers.iter().map(|number| format!(" {number}")).collect()
+}
