@@ -1,0 +1,262 @@
+// The console: a line of its language is read, the call that it names is made, and the answer is written.
+ghost use Prim.Native.Nat.{_≤_};
+ghost use lib.ListN.{length};
+ghost use Rattle.shell.specs.Ready.{Ready};
+use crate::queue::call;
+use crate::queue::show;
+use controller::Controller;
+use plain::codec::check;
+use plain::codec::in_memory;
+use plain::poke::poke;
+use plain::reply::Reply;
+use plain::text::Text;
+use plain::text::peek;
+use plain::text::walk;
+use words::arguments::Arguments;
+use words::arguments::read;
+use words::command::Command;
+use words::command::named;
+use words::line::MOST_BYTES;
+use words::line::Word;
+use words::line::next_word;
+use words::print::put;
+use words::print::put_bad;
+use words::print::put_end;
+use words::print::put_numbers;
+
+mod queue;
+
+// One controller, and how many bytes of the memory are lent to its calls.
+pub struct Shell {
+    pub controller: Controller,
+    pub lent: usize,
+}
+
+// The shell after a line, and the length of the answer: 0 where there is none.
+pub struct Answered {
+    pub shell: Shell,
+    pub length: usize,
+}
+
+// The shell after a command, with its reply.
+struct Ran {
+    shell: Shell,
+    reply: Reply,
+}
+
+// The shell after a command, with the place after the answer's last word.
+struct Done {
+    shell: Shell,
+    text: Text,
+}
+
+impl Shell {
+    pub const MEMORY_BYTES: usize = 1048576;
+
+    pub fn new() -> Shell
+        ensures { λ r. ⌜ Ready r ⌝ }
+    {
+        let fresh = Controller::new(0, 0);
+        let controller = fresh.controller;
+        Shell {
+            controller: controller,
+            lent: Shell::MEMORY_BYTES,
+        }
+    }
+
+    fn lend(self, bytes: u64) -> Ran
+        requires { ⌜ Ready self ⌝ }
+        ensures { λ r. ⌜ Ready (r .shell) ⌝ }
+    {
+        if (Shell::MEMORY_BYTES as u64) < bytes {
+            return Ran {
+                shell: self,
+                reply: Reply::bad(),
+            };
+        }
+        let controller = self.controller;
+        Ran {
+            shell: Shell {
+                controller: controller,
+                lent: bytes as usize,
+            },
+            reply: Reply::of(bytes),
+        }
+    }
+
+    fn call(self, memory: &mut [u8], command: Command, a: [u64; 16]) -> Ran
+        requires { ⌜ Ready self ⌝ }
+        ensures { λ r. ⌜ Ready (r .shell) ⌝ }
+    {
+        let called = call(self.controller, memory, command, a);
+        let controller = called.controller;
+        let reply = called.reply;
+        Ran {
+            shell: Shell {
+                controller: controller,
+                lent: self.lent,
+            },
+            reply: reply,
+        }
+    }
+}
+
+// The commands that leave the controller as it is and answer with numbers.
+fn look(
+    c: Controller,
+    memory: &mut [u8],
+    line: &[u8],
+    at: usize,
+    command: Command,
+    a: Arguments,
+) -> Reply
+    requires { ⌜ at ≤ length (now line) ⌝ }
+{
+    let numbers = a.numbers;
+    match command {
+        Command::Poke => poke(memory, line, at, a, false),
+        Command::Poke64 => poke(memory, line, at, a, true),
+        Command::CheckTail | Command::CheckHead => check(command, numbers),
+        Command::ShowSq | Command::ShowCq | Command::ShowTag => show(c, command, numbers),
+        _ => in_memory(memory, command, numbers),
+    }
+}
+
+// A command that answers with numbers.
+fn run(
+    shell: Shell,
+    memory: &mut [u8],
+    line: &[u8],
+    at: usize,
+    command: Command,
+    a: Arguments,
+) -> Ran
+    requires { ⌜ Ready shell × (at ≤ length (now line)) ⌝ }
+    ensures { λ r. ⌜ Ready (r .shell) ⌝ }
+{
+    let numbers = a.numbers;
+    match command {
+        Command::Lend => shell.lend(numbers[0]),
+        Command::Controller
+        | Command::CreateCq
+        | Command::CreateSq
+        | Command::Tail
+        | Command::Head
+        | Command::Start
+        | Command::Finish => shell.call(memory, command, numbers),
+        _ => Ran {
+            shell: shell,
+            reply: look(shell.controller, memory, line, at, command, a),
+        },
+    }
+}
+
+// A command on the memory that is lent; `at` is the place after its word in the line, and `to` in the answer.
+fn act(
+    shell: Shell,
+    memory: &mut [u8],
+    line: &[u8],
+    at: usize,
+    command: Command,
+    a: Arguments,
+    out: &mut [u8],
+    to: usize,
+) -> Done
+    requires { ⌜ Ready shell × (at ≤ length (now line)) × (to ≤ 4096) × (16384 ≤ length (now out)) ⌝ }
+    ensures { λ r. ⌜ Ready (r .shell) × (r .text .end ≤ 16383) ⌝ }
+{
+    let numbers = a.numbers;
+    match command {
+        Command::Peek => Done {
+            shell: shell,
+            text: peek(memory, numbers, out, to),
+        },
+        Command::Walk => Done {
+            shell: shell,
+            text: walk(memory, numbers, out, to),
+        },
+        _ => {
+            let ran = run(shell, memory, line, at, command, a);
+            let next = ran.shell;
+            let reply = ran.reply;
+            let replied = reply.numbers;
+            Done {
+                shell: next,
+                text: Text {
+                    good: reply.good,
+                    end: put_numbers(out, to, &replied, reply.count),
+                },
+            }
+        }
+    }
+}
+
+fn answer_bad(shell: Shell, number: u64, out: &mut [u8]) -> Answered
+    requires { ⌜ Ready shell × (16384 ≤ length (now out)) ⌝ }
+    ensures { λ r. ⌜ Ready (r .shell) × (r .length ≤ 16384) ⌝ }
+{
+    Answered {
+        shell: shell,
+        length: put_bad(out, number),
+    }
+}
+
+// Ends the answer, or makes it that of a bad line.
+fn close(done: Done, number: u64, out: &mut [u8]) -> Answered
+    requires { ⌜ Ready (done .shell) × (done .text .end ≤ 16383) × (16384 ≤ length (now out)) ⌝ }
+    ensures { λ r. ⌜ Ready (r .shell) × (r .length ≤ 16384) ⌝ }
+{
+    let shell = done.shell;
+    let text = done.text;
+    if !text.good {
+        return answer_bad(shell, number, out);
+    }
+    Answered {
+        shell: shell,
+        length: put_end(out, text.end),
+    }
+}
+
+// The answer to a line whose first word is given.
+fn obey(
+    shell: Shell,
+    memory: &mut [u8],
+    line: &[u8],
+    word: Word,
+    number: u64,
+    out: &mut [u8],
+) -> Answered
+    requires { ⌜ Ready shell × (1048576 ≤ length (now memory)) × (16384 ≤ length (now out)) ⌝ }
+    requires { ⌜ (word .start ≤ word .end) × (word .end ≤ length (now line)) × (length (now line) ≤ 4096) ⌝ }
+    ensures { λ r. ⌜ Ready (r .shell) × (r .length ≤ 16384) ⌝ }
+{
+    let start = word.start;
+    let end = word.end;
+    let command = named(&line[start..end]);
+    let a = read(line, end, command);
+    if !a.good {
+        return answer_bad(shell, number, out);
+    }
+    let to = put(out, 0, &line[start..end]);
+    let lent = shell.lent;
+    let done = act(shell, &mut memory[..lent], line, end, command, a, out, to);
+    close(done, number, out)
+}
+
+// The answer to a line, which is given without its LF and has a number, at the start of `out`.
+pub fn answer(shell: Shell, memory: &mut [u8], line: &[u8], number: u64, out: &mut [u8]) -> Answered
+    requires { ⌜ Ready shell × (1048576 ≤ length (now memory)) × (16384 ≤ length (now out)) ⌝ }
+    ensures { λ r. ⌜ Ready (r .shell) × (r .length ≤ 16384) ⌝ }
+{
+    if MOST_BYTES < line.len() {
+        return answer_bad(shell, number, out);
+    }
+    let word = next_word(line, 0);
+    if word.start == word.end {
+        return Answered {
+            shell: shell,
+            length: 0,
+        };
+    }
+    obey(shell, memory, line, word, number, out)
+}

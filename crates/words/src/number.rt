@@ -1,0 +1,59 @@
+// Numbers as a line writes them.
+ghost use Prim.Native.Nat.{_≤_};
+
+// A number, or a word that is none.
+pub enum Number {
+    Is(u64),
+    Bad,
+}
+
+// What a digit of either base stands for; 16 where the byte is no digit.
+fn digit(b: u8) -> u64
+    ensures { λ r. ⌜ r ≤ 16 ⌝ }
+{
+    match b {
+        b'0'..=b'9' => (b - b'0') as u64,
+        b'a'..=b'f' => (b - b'a') as u64 + 10,
+        b'A'..=b'F' => (b - b'A') as u64 + 10,
+        _ => 16,
+    }
+}
+
+// The number that digits of a base write, where it is below 2^64.
+fn digits(word: &[u8], base: u64) -> Number
+    requires { ⌜ 2 ≤ base ⌝ }
+{
+    let most = u64::MAX / base;
+    let mut value: u64 = 0;
+    let mut i = 0;
+    while i < word.len() {
+        let d = digit(word[i]);
+        if base <= d {
+            return Number::Bad;
+        }
+        if most < value {
+            return Number::Bad;
+        }
+        let shifted = value * base;
+        if u64::MAX - d < shifted {
+            return Number::Bad;
+        }
+        value = shifted + d;
+        i += 1;
+    }
+    Number::Is(value)
+}
+
+// The number that a word writes: decimal digits, or 0x and hexadecimal digits.
+pub fn value_of(word: &[u8]) -> Number {
+    if word.len() < 1 {
+        return Number::Bad;
+    }
+    if word.len() < 3 {
+        return digits(word, 10);
+    }
+    if (word[0] == b'0') & (word[1] == b'x') {
+        return digits(&word[2..], 16);
+    }
+    digits(word, 10)
+}
