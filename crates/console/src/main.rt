@@ -1,0 +1,4 @@
+// The console. Its stored input is a guided tour of the rules.
+fn main() {
+    dialogue::run();
+}

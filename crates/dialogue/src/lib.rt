@@ -1,0 +1,223 @@
+// A conversation in the console's language: lines are read from standard input, and the answers written to standard output.
+ghost use mathlib.Core.Path.{_≡_};
+ghost use Prim.Native.Nat.{_+_, _<_, _≤_};
+ghost use lib.ListN.{length};
+ghost use Rattle.dialogue.specs.Kept.{Kept};
+use crate::wanted::beside;
+use libc::STDIN_FILENO;
+use libc::STDOUT_FILENO;
+use shell::Shell;
+use words::line::without_cr;
+
+mod wanted;
+
+const MEMORY_BYTES: usize = 1048576;
+
+// One byte more than a line may have, which shows that it is too long; further ones are dropped.
+const LINE_BYTES: usize = 4097;
+
+const OUT_BYTES: usize = 65536;
+
+// The room that an answer may need.
+const ANSWER_BYTES: usize = 16384;
+
+// How many lines have ended, how many bytes of the next are held, where the chunk of input is read on, and how many bytes of
+// answers are not yet written out; whether input may still come, and whether answers stand beside what is wanted.
+struct Dialogue {
+    shell: Shell,
+    lines: u64,
+    held: usize,
+    at: usize,
+    unwritten: usize,
+    open: bool,
+    beside: bool,
+}
+
+// The next part of a line: where it ends in the chunk, how many bytes of the line are held, and whether its LF was there.
+struct Part {
+    end: usize,
+    held: usize,
+    ended: bool,
+}
+
+fn keep(line: &mut [u8], held: usize, b: u8) -> usize
+    requires { ⌜ (held ≤ 4097) × (4097 ≤ length (now line)) ⌝ }
+    ensures { λ r. ⌜ r ≤ 4097 ⌝ }
+{
+    if held < LINE_BYTES {
+        line[held] = b;
+        return held + 1;
+    }
+    held
+}
+
+fn gather(chunk: &[u8], at: usize, line: &mut [u8], held: usize) -> Part
+    requires { ⌜ (at < length (now chunk)) × (held ≤ 4097) × (4097 ≤ length (now line)) ⌝ }
+    ensures { λ r. ⌜ (at < r .end) × (r .end ≤ length (now (chunk .entry))) × (r .held ≤ 4097) ⌝ }
+{
+    let mut i = at;
+    let mut n = held;
+    while i < chunk.len() {
+        let b = chunk[i];
+        i += 1;
+        if b == b'\n' {
+            return Part {
+                end: i,
+                held: n,
+                ended: true,
+            };
+        }
+        n = keep(line, n, b);
+    }
+    Part {
+        end: i,
+        held: n,
+        ended: false,
+    }
+}
+
+// Writes the answers out where there is little room left for another, and answers how many bytes are still to be written.
+fn with_room(out: &[u8], unwritten: usize) -> usize
+    requires { ⌜ (unwritten ≤ 65536) × (65536 ≤ length (now out)) ⌝ }
+    ensures { λ r. ⌜ r + 16384 ≤ 65536 ⌝ }
+{
+    if OUT_BYTES - unwritten < ANSWER_BYTES {
+        io::write_all(STDOUT_FILENO, &out[..unwritten]);
+        return 0;
+    }
+    unwritten
+}
+
+// Answers a line.
+fn respond(s: Dialogue, at: usize, memory: &mut [u8], line: &[u8], out: &mut [u8]) -> Dialogue
+    requires { ⌜ Kept s × (1048576 ≤ length (now memory)) × (65536 ≤ length (now out)) ⌝ }
+    ensures { λ r. ⌜ Kept r × (r .at ≡ at) ⌝ }
+{
+    let number = std::num::wrapping_add_u64(s.lines, 1);
+    let start = with_room(out, s.unwritten);
+    let answered = shell::answer(s.shell, memory, line, number, &mut out[start..]);
+    let shell = answered.shell;
+    let length = beside(s.beside, line, &mut out[start..OUT_BYTES], answered.length);
+    Dialogue {
+        shell: shell,
+        lines: number,
+        held: 0,
+        at: at,
+        unwritten: start + length,
+        open: s.open,
+        beside: s.beside,
+    }
+}
+
+// Reads a chunk on to the end of a line, which is answered, or to its own end.
+fn step(s: Dialogue, memory: &mut [u8], chunk: &[u8], line: &mut [u8], out: &mut [u8]) -> Dialogue
+    requires { ⌜ Kept s × (s .at < length (now chunk)) ⌝ }
+    requires { ⌜ (1048576 ≤ length (now memory)) × (4097 ≤ length (now line)) × (65536 ≤ length (now out)) ⌝ }
+    ensures { λ r. ⌜ Kept r × (s .at < r .at) × (r .at ≤ length (now (chunk .entry))) ⌝ }
+{
+    let part = gather(chunk, s.at, line, s.held);
+    let held = part.held;
+    if part.ended {
+        let n = without_cr(line, held);
+        return respond(s, part.end, memory, &line[..n], out);
+    }
+    let mut next = s;
+    next.held = held;
+    next.at = part.end;
+    next
+}
+
+fn write_out(mut s: Dialogue, out: &[u8]) -> Dialogue
+    requires { ⌜ Kept s × (65536 ≤ length (now out)) ⌝ }
+    ensures { λ r. ⌜ Kept r ⌝ }
+{
+    let n = s.unwritten;
+    io::write_all(STDOUT_FILENO, &out[..n]);
+    s.unwritten = 0;
+    s
+}
+
+// Answers the lines that end in a chunk.
+fn feed(s: Dialogue, memory: &mut [u8], chunk: &[u8], line: &mut [u8], out: &mut [u8]) -> Dialogue
+    requires { ⌜ Kept s × (1048576 ≤ length (now memory)) × (4097 ≤ length (now line)) × (65536 ≤ length (now out)) ⌝ }
+    ensures { λ r. ⌜ Kept r ⌝ }
+{
+    let mut next = s;
+    next.at = 0;
+    while next.at < chunk.len() {
+        next = step(next, memory, chunk, line, out);
+    }
+    write_out(next, out)
+}
+
+// At the end of the input a last line without LF counts.
+fn finish(mut s: Dialogue, memory: &mut [u8], line: &[u8], out: &mut [u8]) -> Dialogue
+    requires { ⌜ Kept s × (1048576 ≤ length (now memory)) × (4097 ≤ length (now line)) × (65536 ≤ length (now out)) ⌝ }
+    ensures { λ r. ⌜ Kept r ⌝ }
+{
+    s.open = false;
+    let held = s.held;
+    if held == 0 {
+        return s;
+    }
+    write_out(respond(s, 0, memory, &line[..held], out), out)
+}
+
+// Reads once, and answers the lines that came.
+fn turn(
+    s: Dialogue,
+    memory: &mut [u8; MEMORY_BYTES],
+    line: &mut [u8; LINE_BYTES],
+    out: &mut [u8; OUT_BYTES],
+) -> Dialogue
+    requires { ⌜ Kept s ⌝ }
+    ensures { λ r. ⌜ Kept r ⌝ }
+{
+    let mut chunk = io::large_buffer();
+    let n = io::count(libc::read(STDIN_FILENO, &mut chunk), &chunk);
+    if n == 0 {
+        return finish(s, memory, line, out);
+    }
+    feed(s, memory, &chunk[..n], line, out)
+}
+
+fn first(beside: bool) -> Dialogue
+    ensures { λ r. ⌜ Kept r ⌝ }
+{
+    let shell = Shell::new();
+    Dialogue {
+        shell: shell,
+        lines: 0,
+        held: 0,
+        at: 0,
+        unwritten: 0,
+        open: true,
+        beside: beside,
+    }
+}
+
+// A proved loop has to end, and nothing says that the input does: so the turns are counted down, from a number that no run
+// uses up.
+fn converse(first: Dialogue)
+    requires { ⌜ Kept first ⌝ }
+{
+    let mut memory = [0u8; MEMORY_BYTES];
+    let mut line = [0u8; LINE_BYTES];
+    let mut out = [0u8; OUT_BYTES];
+    let mut s = first;
+    let mut turns = u64::MAX;
+    while turns > 0 && s.open {
+        s = turn(s, &mut memory, &mut line, &mut out);
+        turns -= 1;
+    }
+}
+
+// Answers each line.
+pub fn run() {
+    converse(first(false));
+}
+
+// Answers each line, with what stands behind its `#` as wanted beside it.
+pub fn run_beside() {
+    converse(first(true));
+}
