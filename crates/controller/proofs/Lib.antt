@@ -4,6 +4,8 @@ pub mod Choosing
 pub mod Made
 pub mod Unlinked
 pub mod Validity
+pub mod Unserved
+pub mod Submitted
 pub mod Links
 pub mod Apart
 pub mod Posting
@@ -17,3 +19,4 @@ pub mod Demand
 pub mod Unread
 pub mod Undisturbed
 pub mod ThreePasses
+pub mod Reaches

@@ -2,10 +2,11 @@
 use Prim.Native.Nat.{ℕ, _+_, _-_, _<_, _≤_}
 use mathlib.Core.Bool.{true}
 use mathlib.Core.List.{List}
-use mathlib.Core.Logic.{_⊎_, ⊎-elim}
-use mathlib.Core.Path.{_≡_, ap, _∙_}
+use mathlib.Core.Logic.{_⊎_, ⊎-elim, _↔_}
+use mathlib.Core.Path.{_≡_, sym, ap, _∙_}
 use native.Mathlib.Omega.{arith}
 use lib.ListN.{length, getD}
+use borrow.Author.Tests.{eq-eqb, eqb-true}
 use Rattle.rules.proofs.Tests.{same-or-not}
 use Rattle.rules.proofs.Tables.{settle-refused, settle-accepted}
 use Rattle.le.specs.Memory.{part, put}
@@ -17,7 +18,7 @@ use Rattle.ring.proofs.Exact.{place}
 use Rattle.controller.specs.declared.Controller.{Controller}
 use Rattle.controller.specs.State.{cqAt}
 use Rattle.controller.specs.Finishing as finishing
-use Rattle.controller.specs.Finishing.{cqOf, finishRefusal, refusedFinish, completionOf, finishMemory}
+use Rattle.controller.specs.Finishing.{cqOf, full, finishRefusal, refusedFinish, completionOf, finishMemory}
 use Rattle.controller.specs.Calls.{Reachable, finish, Outcome, refused, finished, ofFinished, perform}
 use Rattle.controller.specs.Demand.{History, ringOf, ringBytes, sizeOf, unreleased, bookHead}
 use Rattle.controller.proofs.Made.{finishable}
@@ -86,6 +87,11 @@ module _ (h : History) where
   -- at most size - 1 entries wait
   pub waits-at-most : length (unreleased h) ≤ sizeOf h - 1
   waits-at-most = omega (arith, queue h .phase .room)
+
+  -- "the CQ has no free slot" exactly if so many do
+  pub full-waits : (full (cqAt (last h) (h .q) .ring) ≡ true) ↔ (length (unreleased h) ≡ sizeOf h - 1)
+  unfolding full
+  full-waits = let e = phase.waiting-length _ _ _ _ _ _ _ (queue h .phase) in (λ f. sym e ∙ eqb-true _ _ f, λ n. eq-eqb _ _ (e ∙ n))
 
   module _ (tag status result j : ℕ) (waits : j < length (unreleased h)) where
     not-tail : unreadSlot j ≡ cqAt (last h) (h .q) .ring .tail → ⊥

@@ -54,20 +54,20 @@ startedFrom (finished slot ∷ rest) = startedFrom rest
 -- an SQ of size 4 whose head has passed n of the three commands submitted, and then a tail write
 abbrev pub tailAfter : ℕ → ℕ → List Answer
 tailAfter n v =
-    drop (4 + n)
+    drop (3 + n)
     (answers (freshController false 0) (zeros 2)
-    (createCq 1 64 0 ∷ createSq 1 4 4096 1 0 ∷ tailWrite 1 3 ∷ repeated n (start ∷ []) ++ (tailWrite 1 3 ∷ tailWrite 1 v ∷ [])))
+    (createCq 1 64 0 ∷ createSq 1 4 4096 1 0 ∷ tailWrite 1 3 ∷ repeated n (start ∷ []) ++ (tailWrite 1 v ∷ [])))
 
 unfoldable pub Cases : Type 0
 Cases =
     -- P1: "Mechanism 0, burst 1, SQs 0, 1, 2 with two each"
-    (startedFrom (answers (freshController false 0) (zeros 5) (completionQueues ++ submitted 0 0 2 ++ submitted 1 0 2 ++ submitted 2 0 2 ++ repeated 7 (start ∷ [])))
+    (startedFrom (answers (freshController false 0) (zeros 5) (completionQueues ++ submitted 0 0 2 ++ submitted 1 0 2 ++ submitted 2 0 2 ++ repeated 6 (start ∷ [])))
     ≡ 0 ∷ 1 ∷ 2 ∷ 0 ∷ 1 ∷ 2 ∷ [])
     -- P2: "Burst 2, SQs 1 and 2 with three each"
-    × (startedFrom (answers (freshController false 1) (zeros 5) (completionQueues ++ submitted 1 0 3 ++ submitted 2 0 3 ++ repeated 7 (start ∷ [])))
+    × (startedFrom (answers (freshController false 1) (zeros 5) (completionQueues ++ submitted 1 0 3 ++ submitted 2 0 3 ++ repeated 6 (start ∷ [])))
     ≡ 1 ∷ 1 ∷ 2 ∷ 2 ∷ 1 ∷ 2 ∷ [])
     -- P3: "Mechanism 1, word 01000000h, SQ 1 high, 2 medium, 3 low, four each"
-    × (startedFrom (answers (freshController true 0x01000000) (zeros 6) (completionQueues ++ submitted 1 1 4 ++ submitted 2 2 4 ++ submitted 3 3 4 ++ repeated 13 (start ∷ [])))
+    × (startedFrom (answers (freshController true 0x01000000) (zeros 6) (completionQueues ++ submitted 1 1 4 ++ submitted 2 2 4 ++ submitted 3 3 4 ++ repeated 12 (start ∷ [])))
     ≡ 1 ∷ 1 ∷ 2 ∷ 3 ∷ 1 ∷ 1 ∷ 2 ∷ 3 ∷ 2 ∷ 3 ∷ 2 ∷ 3 ∷ [])
     -- P4: "SQ size 4, head 0, tail 3: write 4 is refused (10), and so is write 0"
     × (tailAfter 0 4 ≡ refused 10 ∷ [])

@@ -6,7 +6,7 @@ use lib.Dec.{leb, eqb}
 use lib.ListN.{length, set}
 use Rattle.rules.specs.Rules.{pick, firstMatch, settle}
 use Rattle.bits.specs.Bits.{maskOf}
-use Rattle.bits.specs.Tags.{takenOne, takenTwo}
+use Rattle.bits.specs.Tags.{takenOne, takenTwo, oneRefusal, twoRefusal}
 use Rattle.bits.specs.declared.TakenOne.{TakenOne}
 use Rattle.bits.specs.declared.TakenOne.the-variants.{Tag, NoneFree}
 use Rattle.bits.specs.declared.TakenTwo.{TakenTwo}
@@ -15,7 +15,7 @@ use Rattle.le.specs.Memory.{part}
 use Rattle.entry.specs.Submission.{submissionAt}
 use Rattle.entry.specs.declared.submission.Submission.{Submission}
 use Rattle.ring.specs.Slots.{next, distance}
-use Rattle.arbiter.specs.Arbiter.{choice}
+use Rattle.arbiter.specs.Arbiter.{choice, refusalOf}
 use Rattle.arbiter.specs.declared.Arbiter.{Arbiter}
 use Rattle.arbiter.specs.declared.Candidates.{Candidates}
 use Rattle.arbiter.specs.declared.Chosen.{Chosen}
@@ -101,11 +101,11 @@ pairTaken c id a e f v t u left =
 
 -- "If the chosen SQ needs more than are free, the answer is 13."
 abbrev pub withOne : Controller → (ℕ → ℕ → Start) → TakenOne → Start
-withOne c f NoneFree = refusedStart c 13
+withOne c f NoneFree = refusedStart c (oneRefusal NoneFree)
 withOne c f (Tag t left) = f t left
 
 abbrev pub withTwo : Controller → (ℕ → ℕ → ℕ → Start) → TakenTwo → Start
-withTwo c f TooFew = refusedStart c 13
+withTwo c f TooFew = refusedStart c (twoRefusal TooFew)
 withTwo c f (Tags t u left) = f t u left
 
 abbrev pub used : Controller → ℕ → Submission → Bool
@@ -125,7 +125,7 @@ takePair c m id a =
 
 -- "One start takes one command, or a whole pair": from the queue chosen, and 12 where there is none
 abbrev pub takeFrom : Controller → List ℕ → Chosen → Start
-takeFrom c m C.Nobody = refusedStart c 12
+takeFrom c m C.Nobody = refusedStart c (refusalOf C.Nobody)
 takeFrom c m (C.Queue id a) = pick (isPair id (sqAt c id .ring) m) (takePair c m id a) (takeOne c m id a)
 
 -- "start 5, 12, 13"

@@ -1,6 +1,6 @@
 -- `Shell::new` meets its contract: its controller is fresh. Assumes nothing.
 use borrow.Author.Needs.{needs}
-use Rattle.shell.proofs.Reaches.{by-new}
+use Rattle.controller.proofs.Reaches.{by-new}
 use Rattle.shell.proofs.Shell.new.Statement.{statement}
 use Rattle.shell.proofs.Shell.new.Tie as tie
 

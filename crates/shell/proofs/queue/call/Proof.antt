@@ -2,7 +2,7 @@
 use borrow.Author.Needs.{needs}
 use mathlib.Core.List.{[]}
 use Rattle.controller.specs.Calls.{createCq, createSq, tailWrite, headWrite, start, finish}
-use Rattle.shell.proofs.Reaches.{by-call, by-new}
+use Rattle.controller.proofs.Reaches.{by-call, by-new}
 use Rattle.shell.proofs.queue.call.Statement.{statement}
 use Rattle.shell.proofs.queue.call.Tie as tie
 
