@@ -21,11 +21,12 @@
  *
  * Side effects. A call keeps no pointer, allocates nothing and touches nothing global. It is re-entrant, and
  * threads may call at the same time, as long as no buffer that one of them writes is in use by another. A buffer is
- * read as ordinary memory: to look at a ring that a device is writing, copy it first, with the barriers that your
- * platform asks for.
+ * read as ordinary memory and must not change during the call; the page walk reads a list twice and trusts what it has
+ * checked. To look at a ring or a list that a device is writing, copy it first, with the barriers that your platform
+ * asks for.
  *
  * Time. No call waits, fails in another way than by its refusal number, or runs without limit: the ring reader looks
- * at no more than 1,023 entries, the page walk at no more than 257.
+ * at no more than 1,023 entries, the page walk at no more than 257, each at most twice.
  *
  * The archive is for x86-64 Linux, with size_t of 64 bits.
  *

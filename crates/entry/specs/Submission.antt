@@ -41,7 +41,7 @@ submissionAt b =
       cdw15 = leAt 4 b 60;
     }
 
--- the refusal of writer and reader on n bytes
+-- the refusal of the writer on n bytes
 unfoldable pub writeRefusal : ℕ → ℕ
 writeRefusal n = firstMatch ((ltb n 64, 21) ∷ [])
 

@@ -1,6 +1,6 @@
 -- Laws of numbers that are stored one after the other. Assumes nothing.
-use Prim.Native.Nat.{ℕ, zero, suc, _*_, _≤_}
-use mathlib.Core.Path.{_≡_, ap, sym, _∙_}
+use Prim.Native.Nat.{ℕ, zero, suc, _+_, _*_, _≤_}
+use mathlib.Core.Path.{_≡_, refl, ap, sym, _∙_}
 use mathlib.Core.List.{List, [], _∷_, _++_, append-assoc, append-nil}
 use native.Mathlib.Nat.{mul-suc, zero-add}
 use native.Mathlib.Omega.{arith}
@@ -16,6 +16,25 @@ length-numbers : (w : ℕ) (xs : List ℕ) → length (numbers w xs) ≡ w * len
 unfolding numbers
 length-numbers w [] = omega arith
 length-numbers w (x ∷ xs) = length-append (le w x) (numbers w xs) ∙ rw (length-le w x, length-numbers w xs, mul-suc) (omega arith)
+
+pub numbers-append : (w : ℕ) (xs ys : List ℕ) → numbers w (xs ++ ys) ≡ numbers w xs ++ numbers w ys
+unfolding numbers
+numbers-append w [] ys = refl
+numbers-append w (x ∷ xs) ys = rw (numbers-append w xs ys) (sym (append-assoc (le w x) (numbers w xs) (numbers w ys)))
+
+-- numbers stored after others
+pub numbers-after :
+    (w : ℕ) (old xs ys : List ℕ) (i j : ℕ) → j ≡ i + w * length xs → sets (sets old i (numbers w xs)) j (numbers w ys) ≡ sets old i (numbers w (xs ++ ys))
+numbers-after w old xs ys i j e = sets-append old (numbers w xs) (numbers w ys) i j (omega (arith, length-numbers w xs)) ∙ ap (sets old i) (sym (numbers-append w xs ys))
+
+-- one number, alone and before others
+pub numbers-one : (w x : ℕ) → le w x ≡ numbers w (x ∷ [])
+unfolding numbers
+numbers-one w x = sym (append-nil (le w x))
+
+pub first-then : (w : ℕ) (old : List ℕ) (x : ℕ) (xs : List ℕ) → sets (sets old 0 (le w x)) w (numbers w xs) ≡ sets old 0 (numbers w (x ∷ xs))
+unfolding numbers
+first-then w old x xs = sets-append old (le w x) (numbers w xs) 0 w (zero-add (length (le w x)) ∙ length-le w x)
 
 numbers-snoc : (w : ℕ) (xs : List ℕ) (x : ℕ) → numbers w (xs ++ (x ∷ [])) ≡ numbers w xs ++ le w x
 unfolding numbers

@@ -1,10 +1,12 @@
 -- Laws of how the bytes of a transfer are split over its pages. Assumes nothing.
-use Prim.Native.Nat.{ℕ, zero, suc, _-_, _%_, _<_, min}
+use Prim.Native.Nat.{ℕ, zero, suc, _+_, _-_, _*_, _/_, _%_, _<_, _≤_, min}
 use mathlib.Core.Path.{_≡_, refl, ap}
 use mathlib.Core.List.{_∷_}
+use native.Mathlib.Nat.{mod-lt, div-mul-le-self, lt-div-mul-add, suc-mul}
 use native.Mathlib.Omega.{arith}
 use lib.ListN.{length}
-use Rattle.prp.specs.Pages.{split, byteCounts}
+use Rattle.prp.specs.Pages.{pagesTouched, split, byteCounts}
+use Rattle.prp.proofs.Touched.{by-offset}
 
 split-length : (page room len n : ℕ) → length (split page room len n) ≡ n
 unfolding split
@@ -21,3 +23,30 @@ unfolding split
 split-next page room len n i here h e =
     let more : n - i ≡ suc (n - suc i) = omega arith in
     rw (more, e)
+
+-- Bytes that are left end on the n-th page after one with room for so many of them.
+abbrev pub Ends : ℕ → ℕ → ℕ → ℕ → Type 0
+Ends page room len n = (room + n * page < len + page) × (len ≤ room + n * page)
+
+pub ends-touched : (page prp1 len : ℕ) → 4096 ≤ page → 0 < len → Ends page (page - prp1 % page) len (pagesTouched page prp1 len - 1)
+ends-touched page prp1 len low some =
+    let pos : 0 < page = omega arith in
+    let x = prp1 % page + len - 1 in
+    let n : pagesTouched page prp1 len - 1 ≡ x / page = omega (arith, by-offset page prp1 len low some) in
+    rw n (omega (arith, mod-lt prp1 pos, div-mul-le-self x page), omega (arith, mod-lt prp1 pos, lt-div-mul-add {a = x} pos))
+
+module _ (page room len : ℕ) where
+  -- a page that is not the last is full
+  pub ends-full : (n : ℕ) → 0 < n → Ends page room len n → room < len
+  ends-full (suc n) h e = omega (arith, suc-mul n page, e)
+
+  pub ends-next : (n k : ℕ) → n ≡ suc k → Ends page room len n → Ends page page (len - room) k
+  ends-next n k h e =
+      let e′ : Ends page room len (suc k) = rw h at e in
+      omega (arith, suc-mul k page, e′)
+
+  -- the last holds the rest
+  pub ends-last : (n : ℕ) → n ≡ 0 → Ends page room len n → len ≤ room
+  ends-last n h e =
+      let e′ : Ends page room len 0 = rw h at e in
+      omega (arith, e′)

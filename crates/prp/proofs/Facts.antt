@@ -14,6 +14,7 @@ use Rattle.rules.specs.Rules.{pick, settle, firstMatch}
 use Rattle.le.specs.Le.{leAt}
 use Rattle.prp.specs.Pages.{pageSize, pagesTouched, split, byteCounts}
 use Rattle.prp.specs.Walk.{Walk, refused, found, demand, after, inMemory, lastOfPage, readEntry, list, dataPages, beforeWalk, pageWalk}
+use Rattle.prp.specs.Answer.{addressesOf, Found}
 use Rattle.prp.proofs.Touched.{by-offset}
 
 -- the sum of a list
@@ -110,6 +111,14 @@ module _ (page : ℕ) (m : List ℕ) where
       finds-pick n (eqb n 1) _ _ (λ e. sym (eqb-true n 1 e))
       (λ _. finds-pick n (eqb n 2) _ _ (λ e. finds-demand n (eqb (prp2 % page) 0) _ _ (sym (eqb-true n 2 e)))
       (λ _. finds-demand n (eqb (prp2 % 8) 0) _ _ (rw back at (finds-after (n - 1) (prp1 ∷ []) 0 (list page m (n - 1) prp2) (finds-list (n - 1) prp2)))))
+
+finds-length : (n : ℕ) (w : Walk) → Found w → Finds n w → length (addressesOf w) ≡ n
+unfolding Found Finds addressesOf
+finds-length n (refused number) f h = absurd f
+finds-length n (found l reads) f h = h
+
+pub pages-length : (page : ℕ) (m : List ℕ) (prp1 prp2 n : ℕ) → 0 < n → Found (dataPages page m prp1 prp2 n) → length (addressesOf (dataPages page m prp1 prp2 n)) ≡ n
+pages-length page m prp1 prp2 n h f = finds-length n (dataPages page m prp1 prp2 n) f (finds-pages page m prp1 prp2 n h)
 
 -- a walk that is not refused finds an address for each page touched
 pub walk-finds : (m : List ℕ) (prp1 prp2 len k addressRoom countRoom : ℕ) → Finds (pagesTouched (pageSize k) prp1 len) (pageWalk m prp1 prp2 len k addressRoom countRoom)

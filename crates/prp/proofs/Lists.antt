@@ -15,13 +15,13 @@ pick-same : {A : Type 0} (b : Bool) (x : A) → pick b x x ≡ x
 pick-same true x = refl
 pick-same false x = refl
 
-pub after-after : (l l′ : List ℕ) (n n′ : ℕ) (w : Walk) → after l n (after l′ n′ w) ≡ after (l ++ l′) (n + n′) w
+after-after : (l l′ : List ℕ) (n n′ : ℕ) (w : Walk) → after l n (after l′ n′ w) ≡ after (l ++ l′) (n + n′) w
 unfolding after
 after-after l l′ n n′ (refused number) = refl
 after-after l l′ n n′ (found k r) = simp (append-assoc, add-assoc)
 
 -- an address at offset 0 is not the place of a list page's last entry
-pub first-not-last : (page a : ℕ) → 4096 ≤ page → a % page ≡ 0 → lastOfPage page a ≡ false
+first-not-last : (page a : ℕ) → 4096 ≤ page → a % page ≡ 0 → lastOfPage page a ≡ false
 unfolding lastOfPage
 first-not-last page a low e = ne-eqb (a % page) (page - 8) (λ (h : a % page ≡ page - 8). omega arith)
 

@@ -1,7 +1,7 @@
 -- Laws of page sizes, and of the number of pages that a transfer touches. Assumes nothing.
-use Prim.Native.Nat.{ℕ, _+_, _-_, _*_, _/_, _%_, _≤_, _<_}
+use Prim.Native.Nat.{ℕ, _+_, _-_, _*_, _/_, _%_, _^_, _≤_, _<_}
 use mathlib.Core.Path.{_≡_, ap, _∙_}
-use native.Mathlib.Nat.{mul-le-mul-left, mod-lt, div-lt-iff-lt-mul, div-add-mod', mul-add-div-right}
+use native.Mathlib.Nat.{mod-mod-of-dvd, dvd-of-mod-eq-zero, mul-le-mul-left, mod-lt, div-lt-iff-lt-mul, div-add-mod', mul-add-div-right}
 use native.Mathlib.Omega.{arith}
 use lib.Pow.{pow-pos, pow-mono}
 use Rattle.prp.specs.Pages.{longest, mostPages, pageSize, pagesTouched}
@@ -13,6 +13,13 @@ page-low k = omega (arith, pow-pos k)
 pub page-high : (k : ℕ) → k ≤ 4 → pageSize k ≤ 65536
 unfolding pageSize
 page-high k h = mul-le-mul-left 4096 (pow-mono h)
+
+-- 8 divides a page size
+pub page-eight : (k a : ℕ) → (pageSize k % 8 ≡ 0) × (a % pageSize k % 8 ≡ a % 8)
+unfolding pageSize
+page-eight k a =
+    let eighth : 4096 * 2 ^ k % 8 ≡ 0 = omega arith in
+    (eighth, mod-mod-of-dvd 8 a (dvd-of-mod-eq-zero 8 eighth))
 
 module _ (page prp1 len : ℕ) (low : 4096 ≤ page) (some : 0 < len) where
   pos : 0 < page

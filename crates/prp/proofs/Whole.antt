@@ -1,17 +1,19 @@
 -- Laws of the whole walk, and of what its answer tells of the buffers. Assumes nothing.
-use Prim.Native.Nat.{ℕ, _*_, _≤_}
-use mathlib.Core.Path.{_≡_, refl, sym, ap, _∙_}
-use mathlib.Core.List.{List, []}
+use Prim.Native.Nat.{ℕ, _-_, _*_, _%_, _≤_}
+use mathlib.Core.Path.{_≡_, refl, sym, ap, subst, _∙_}
+use mathlib.Core.Bool.{Bool, true, false}
+use mathlib.Core.List.{List, [], _∷_}
 use native.Mathlib.Omega.{arith}
-use borrow.Author.Tests.{ltb-false}
-use lib.ListN.{length, take}
-use lib.Seq.{length-take-le}
+use borrow.Author.Tests.{ltb-false, ne-eqb, eqb-true}
+use lib.Dec.{eqb}
+use lib.ListN.{length}
 use Rattle.rules.specs.Rules.{firstMatch}
 use Rattle.rules.proofs.Tests.{range, or-false}
 use Rattle.rules.proofs.Tables.{passed, settle-refused, settle-accepted}
 use Rattle.prp.specs.Pages.{longest, pageSize, pagesTouched}
-use Rattle.prp.specs.Walk.{Walk, refused, found, dataPages, beforeWalk, pageWalk}
-use Rattle.prp.specs.Answer.{answer, pagesOf, addressesOf, Filled}
+use Rattle.prp.specs.Walk.{Walk, refused, found, demand, after, list, dataPages, beforeWalk, pageWalk}
+use Rattle.prp.specs.Answer.{answer, pagesOf, addressesOf, Found}
+use Rattle.prp.proofs.Copies.{after-found}
 use Rattle.prp.specs.declared.Walked.{Walked}
 use Rattle.prp.specs.declared.Walked.the-variants.{Pages, Refused}
 
@@ -41,20 +43,53 @@ module _ (prp1 len k addressRoom countRoom n : ℕ) (is : n ≡ firstMatch (befo
     unfolding pageWalk
     walk-accepted h count e = rw (← is, ← e) (settle-accepted n refused _ h)
 
+-- a refusal has no addresses, and an answer with pages has as many
 none : (w : Walk) (number : ℕ) → answer w ≡ Refused number → addressesOf w ≡ []
 unfolding answer addressesOf
 none (refused f) number e = refl
 none (found l n) number e = cc
 
-all : (w : Walk) (n reads count : ℕ) (pages : List ℕ) → answer w ≡ Pages n reads → Filled count w pages → (addressesOf w ≡ take count pages) × (length (take count pages) ≡ n)
-unfolding answer addressesOf Filled
-all (refused f) n reads count pages e h = absurd (let z : _≡_ {A = ℕ} 0 1 = cc in omega arith)
-all (found l r) n reads count pages e h = (h, cc)
+all : (w : Walk) (n reads : ℕ) → answer w ≡ Pages n reads → Found w
+unfolding answer Found
+all (refused f) n reads e = absurd (let z : _≡_ {A = ℕ} 0 1 = cc in omega arith)
+all (found l r) n reads e = tt
 
--- a refusal has no addresses, and an answer with pages has those that the array begins with
+many : (w : Walk) → pagesOf (answer w) ≡ length (addressesOf w)
+unfolding answer addressesOf
+many (refused f) = refl
+many (found l n) = refl
+
 module _ (w : Walk) (r : Walked) (is : r ≡ answer w) where
   pub none-found : (number : ℕ) → r ≡ Refused number → (addressesOf w ≡ []) × (pagesOf r ≡ 0)
   none-found number e = (none w number (sym is ∙ e), ap pagesOf e)
 
-  pub all-found : (n reads count : ℕ) (pages : List ℕ) → r ≡ Pages n reads → Filled count w pages → count ≤ length pages → (addressesOf w ≡ take count pages) × (pagesOf r ≡ count)
-  all-found n reads count pages e h fits = let a = all w n reads count pages (sym is ∙ e) h in (a .0, ap pagesOf e ∙ sym (a .1) ∙ length-take-le count pages fits)
+  pub all-found : (n reads : ℕ) → r ≡ Pages n reads → Found w × (pagesOf r ≡ length (addressesOf w))
+  all-found n reads e = (all w n reads (sym is ∙ e), ap pagesOf is ∙ many w)
+
+demanded : (test : Bool) (number : ℕ) (w : Walk) → Found (demand test number w) → (test ≡ true) × Found w
+unfolding Found
+demanded true number w f = (refl, f)
+demanded false number w f = absurd f
+
+-- what the data pages are where they are not refused
+module _ (page : ℕ) (m : List ℕ) (prp1 prp2 n : ℕ) (good : Found (dataPages page m prp1 prp2 n)) where
+  pub one-page : n ≡ 1 → addressesOf (dataPages page m prp1 prp2 n) ≡ prp1 ∷ []
+  unfolding dataPages addressesOf
+  one-page e = rw e refl
+
+  pub two-pages : n ≡ 2 → addressesOf (dataPages page m prp1 prp2 n) ≡ prp1 ∷ prp2 ∷ []
+  unfolding dataPages addressesOf
+  two-pages e =
+      let aligned = demanded (eqb (prp2 % page) 0) 18 (found (prp1 ∷ prp2 ∷ []) 0) (rw e at good) in
+      rw (e, aligned .0) refl
+
+  module _ (not-one : n ≡ 1 → ⊥) (not-two : n ≡ 2 → ⊥) where
+    listed : dataPages page m prp1 prp2 n ≡ demand (eqb (prp2 % 8) 0) 18 (after (prp1 ∷ []) 0 (list page m (n - 1) prp2))
+    unfolding dataPages
+    listed = rw (ne-eqb n 1 not-one, ne-eqb n 2 not-two)
+
+    pub list-good : (prp2 % 8 ≡ 0) × (Found (list page m (n - 1) prp2) × (addressesOf (dataPages page m prp1 prp2 n) ≡ prp1 ∷ addressesOf (list page m (n - 1) prp2)))
+    list-good =
+        let d = demanded (eqb (prp2 % 8) 0) 18 (after (prp1 ∷ []) 0 (list page m (n - 1) prp2)) (subst Found listed good) in
+        let f = after-found (prp1 ∷ []) 0 (list page m (n - 1) prp2) (d .1) in
+        (eqb-true (prp2 % 8) 0 (d .0), (f .0, ap addressesOf listed ∙ rw (d .0) (f .1)))

@@ -1,8 +1,7 @@
 -- The answer of the page walk, and what the walk leaves in its buffers.
-use Prim.Native.Nat.{ℕ}
-use mathlib.Core.Path.{_≡_}
+use Prim.Native.Nat.{ℕ, _+_}
 use mathlib.Core.List.{List, [], _∷_, _++_}
-use lib.ListN.{length, take}
+use lib.ListN.{length}
 use Rattle.le.specs.Le.{le}
 use Rattle.prp.specs.Walk.{Walk, refused, found}
 use Rattle.prp.specs.declared.Walked.{Walked}
@@ -12,6 +11,11 @@ use Rattle.prp.specs.declared.Walked.the-variants.{Pages, Refused}
 unfoldable pub answer : Walk → Walked
 answer (refused number) = Refused number
 answer (found l n) = Pages (length l) n
+
+-- the same where so many pages were found and so many entries read before the walk
+unfoldable pub counted : ℕ → ℕ → Walk → Walked
+counted pages reads (refused number) = Refused number
+counted pages reads (found l n) = Pages (pages + length l) (reads + n)
 
 -- The paper's number and values for each case of the answer: beside a refusal "every other number in its answer is 0".
 abbrev pub refusalOf : Walked → ℕ
@@ -36,7 +40,7 @@ unfoldable pub numbers : ℕ → List ℕ → List ℕ
 numbers w [] = []
 numbers w (x ∷ xs) = le w x ++ numbers w xs
 
--- an array of addresses begins with those of a walk of n pages; beside a refusal nothing is said of it
-unfoldable pub Filled : ℕ → Walk → List ℕ → Type 0
-Filled n (refused number) pages = Unit
-Filled n (found l reads) pages = l ≡ take n pages
+-- a walk that is not refused
+unfoldable pub Found : Walk → Type 0
+Found (refused number) = ⊥
+Found (found l reads) = Unit

@@ -32,7 +32,8 @@ unfoldable pub lastOfPage : ℕ → ℕ → Bool
 lastOfPage page a = eqb (a % page) (page - 8)
 
 -- The list entry at a is read: 19 where it does not lie wholly in memory. "List entries have offset 0": 18 where its value has
--- another. Else it counts as read, and next goes on with its value: "18 before 19 at each later pointer or entry in reading order".
+-- another. Else it counts as read, and next goes on with its value. "18 before 19 at each later pointer or entry in reading order": a
+-- value is tested (18) before it is followed, and 19 is about the place that the value before it led to.
 unfoldable pub readEntry : ℕ → List ℕ → ℕ → (ℕ → Walk) → Walk
 readEntry page m a next =
     demand (inMemory m a) 19 (demand (eqb (leAt 8 m a % page) 0) 18 (after [] 1 (next (leAt 8 m a))))

@@ -1,18 +1,16 @@
 // The PRP page walk: from PRP1, PRP2, a length and a page size number to the addresses and byte counts of the data pages.
 ghost use mathlib.Core.Path.{_≡_};
-ghost use Prim.Native.Nat.{_+_, _-_, _*_, _%_, _≤_, _<_, min};
-ghost use lib.ListN.{length, take};
+ghost use Prim.Native.Nat.{ℕ, _+_, _*_, _%_, _≤_, _<_, min};
+ghost use lib.ListN.{length};
+ghost use lib.Seq.{sets};
 ghost use Rattle.rules.specs.Rules.{firstMatch};
 ghost use Rattle.le.specs.Memory.{put};
 ghost use Rattle.prp.specs.Pages.{longest, mostPages, pageSize, pagesTouched, byteCounts};
-ghost use Rattle.prp.specs.Walk.{inMemory, lastOfPage, after, list, dataPages, beforeWalk, pageWalk};
-ghost use Rattle.prp.specs.Answer.{answer, pagesOf, addressesOf, numbers, Filled};
+ghost use Rattle.prp.specs.Walk.{inMemory, list, dataPages, beforeWalk, pageWalk};
+ghost use Rattle.prp.specs.Answer.{answer, counted, pagesOf, addressesOf, numbers, Found};
 
 // The longest transfer, in bytes.
 const MOST_BYTES: u64 = 1048576;
-
-// The most pages that a transfer touches.
-const MOST_PAGES: usize = 257;
 
 // The number of pages and the number of list entries read, or the refusal number.
 pub enum Walked {
@@ -76,26 +74,32 @@ fn in_memory(memory: &[u8], at: u64) -> bool
     8 <= memory.len() && at <= (memory.len() - 8) as u64
 }
 
-// Whether `at` is the place of the last entry of a list page.
-fn last_of_page(at: u64, page: u64) -> bool
-    requires { ⌜ page ≤ 4 ⌝ }
-    ensures { λ r. ⌜ r ≡ lastOfPage (pageSize page) at ⌝ }
+fn smaller(a: u64, b: u64) -> u64
+    ensures { λ r. ⌜ r ≡ min a b ⌝ }
 {
-    page_offset(at, page) == page_size(page) - 8
+    if a < b { a } else { b }
 }
 
-// Fills in the addresses after the first, from the PRP list at `start`. A turn of the outer loop is a list page, a turn of the
-// inner one an entry.
-fn list_pages(memory: &[u8], start: u64, count: usize, page: u64, pages: &mut [u64]) -> Walked
-    requires { ⌜ (page ≤ 4) × ((1 < count) × (count ≤ length (now pages))) ⌝ }
-    ensures { λ r. ⌜ r ≡ answer (after (take 1 (now (pages .entry))) 0 (list (pageSize page) (now (memory .entry)) (count - 1) start)) ⌝ }
-    ensures { λ _. ⌜ Filled count (after (take 1 (now (pages .entry))) 0 (list (pageSize page) (now (memory .entry)) (count - 1) start)) (now (pages .exit)) ⌝ }
+// How many entries of a list page stand from `at` on.
+fn entries_left(at: u64, page: u64) -> u64
+    requires { ⌜ (page ≤ 4) × (at % 8 ≡ 0) ⌝ }
+    ensures { λ r. ⌜ at % pageSize page + 8 * r ≡ pageSize page ⌝ }
+{
+    (page_size(page) - page_offset(at, page)) / 8
+}
+
+// Reads the PRP list at `start`, of `count` pages after the first. A turn of the outer loop is a list page, a turn of the inner
+// one an entry; `more` entries of the list page are to be read, of which the last is a pointer if more than one page is left.
+fn list_pages(memory: &[u8], start: u64, count: u64, page: u64) -> Walked
+    requires { ⌜ (page ≤ 4) × ((0 < count) × ((count < mostPages) × (start % 8 ≡ 0))) ⌝ }
+    ensures { λ r. ⌜ r ≡ counted 1 0 (list (pageSize page) (now (memory .entry)) count start) ⌝ }
 {
     let mut at = start;
-    let mut filled: usize = 1;
+    let mut left = count;
     let mut reads: u64 = 0;
     let walked;
     'pages: loop {
+        let mut more = smaller(left, entries_left(at, page));
         loop {
             if !in_memory(memory, at) {
                 walked = Walked::Refused(19);
@@ -107,36 +111,27 @@ fn list_pages(memory: &[u8], start: u64, count: usize, page: u64, pages: &mut [u
                 walked = Walked::Refused(18);
                 break 'pages;
             }
-            if count - filled > 1 && last_of_page(at, page) {
+            if more == 1 {
+                if left == 1 {
+                    walked = Walked::Pages(count + 1, reads);
+                    break 'pages;
+                }
                 at = entry;
                 break;
             }
-            pages[filled] = entry;
-            filled += 1;
-            if filled == count {
-                walked = Walked::Pages(count as u64, reads);
-                break 'pages;
-            }
+            more -= 1;
+            left -= 1;
             at += 8;
         }
     }
     walked
 }
 
-// Fills in the addresses of `count` pages.
-fn data_pages(
-    memory: &[u8],
-    prp1: u64,
-    prp2: u64,
-    count: usize,
-    page: u64,
-    pages: &mut [u64],
-) -> Walked
-    requires { ⌜ (page ≤ 4) × ((0 < count) × (count ≤ length (now pages))) ⌝ }
-    ensures { λ r. ⌜ r ≡ answer (dataPages (pageSize page) (now (memory .entry)) prp1 prp2 count) ⌝ }
-    ensures { λ _. ⌜ Filled count (dataPages (pageSize page) (now (memory .entry)) prp1 prp2 count) (now (pages .exit)) ⌝ }
+// Checks the addresses of `count` pages after PRP1.
+fn data_pages(memory: &[u8], prp2: u64, count: u64, page: u64) -> Walked
+    requires { ⌜ (page ≤ 4) × ((0 < count) × (count ≤ mostPages)) ⌝ }
+    ensures { λ r. ⌜ ((prp1 : ℕ) → r ≡ answer (dataPages (pageSize page) (now (memory .entry)) prp1 prp2 count)) ⌝ }
 {
-    pages[0] = prp1;
     if count == 1 {
         return Walked::Pages(1, 0);
     }
@@ -144,44 +139,73 @@ fn data_pages(
         if page_offset(prp2, page) != 0 {
             return Walked::Refused(18);
         }
-        pages[1] = prp2;
         return Walked::Pages(2, 0);
     }
     if prp2 % 8 != 0 {
         return Walked::Refused(18);
     }
-    list_pages(memory, prp2, count, page, pages)
+    list_pages(memory, prp2, count - 1, page)
 }
 
-// Stores the first `count` addresses.
-fn store_addresses(pages: &[u64], count: usize, addresses: &mut [u8])
-    requires { ⌜ (count ≤ length (now pages)) × (8 * count ≤ length (now addresses)) ⌝ }
-    ensures { λ _. ⌜ now (addresses .exit) ≡ put (now (addresses .entry)) 0 (numbers 8 (take count (now (pages .entry)))) ⌝ }
+// Stores the addresses in the PRP list at `start`, of `count` pages, which is known to be good.
+fn store_list(memory: &[u8], start: u64, count: u64, page: u64, addresses: &mut [u8])
+    requires { ⌜ (page ≤ 4) × ((0 < count) × ((count < mostPages) × ((start % 8 ≡ 0) × (8 * count + 8 ≤ length (now addresses))))) ⌝ }
+    requires { ⌜ Found (list (pageSize page) (now memory) count start) ⌝ }
+    ensures { λ _. ⌜ now (addresses .exit) ≡ sets (now (addresses .entry)) 8 (numbers 8 (addressesOf (list (pageSize page) (now (memory .entry)) count start))) ⌝ }
 {
-    for i in 0..count {
-        le::put64(addresses, 8 * i, pages[i]);
+    let mut at = start;
+    let mut left = count;
+    let mut to: usize = 8;
+    loop {
+        let mut more = smaller(left, entries_left(at, page));
+        while more > 1 {
+            le::put64(addresses, to, le::get64(memory, at as usize));
+            more -= 1;
+            left -= 1;
+            at += 8;
+            to += 8;
+        }
+        let entry = le::get64(memory, at as usize);
+        if left == 1 {
+            le::put64(addresses, to, entry);
+            return;
+        }
+        at = entry;
     }
 }
 
-fn smaller(a: u64, b: u64) -> u64
-    ensures { λ r. ⌜ (r ≡ min a b) × (r ≤ b) ⌝ }
+// Stores the addresses of `count` pages, which are known to be good.
+fn store_addresses(memory: &[u8], prp1: u64, prp2: u64, count: u64, page: u64, addresses: &mut [u8])
+    requires { ⌜ (page ≤ 4) × ((0 < count) × ((count ≤ mostPages) × (8 * count ≤ length (now addresses)))) ⌝ }
+    requires { ⌜ Found (dataPages (pageSize page) (now memory) prp1 prp2 count) ⌝ }
+    ensures { λ _. ⌜ now (addresses .exit) ≡ put (now (addresses .entry)) 0 (numbers 8 (addressesOf (dataPages (pageSize page) (now (memory .entry)) prp1 prp2 count))) ⌝ }
 {
-    if a < b { a } else { b }
+    le::put64(addresses, 0, prp1);
+    if count == 1 {
+        return;
+    }
+    if count == 2 {
+        le::put64(addresses, 8, prp2);
+        return;
+    }
+    store_list(memory, prp2, count - 1, page, addresses);
 }
 
-// Stores the byte counts of `count` pages.
-fn store_counts(prp1: u64, length: u64, count: usize, page: u64, counts: &mut [u8])
-    requires { do ⌜ (page ≤ 4) × (4 * count ≤ (← ⟦counts.len()⟧)) ⌝ }
+// Stores the byte counts of the pages touched: all but the last are full from where the data begin.
+fn store_counts(prp1: u64, length: u64, count: u64, page: u64, counts: &mut [u8])
+    requires { ⌜ (page ≤ 4) × ((0 < length) × (0 < count)) ⌝ }
+    requires { do ⌜ (count ≡ pagesTouched (pageSize page) prp1 length) × (4 * count ≤ (← ⟦counts.len()⟧)) ⌝ }
     ensures { λ _. ⌜ now (counts .exit) ≡ put (now (counts .entry)) 0 (numbers 4 (byteCounts (pageSize page) prp1 length count)) ⌝ }
 {
     let mut room = page_size(page) - page_offset(prp1, page);
     let mut left = length;
-    for i in 0..count {
-        let here = smaller(room, left);
-        le::put32(counts, 4 * i, here);
-        left -= here;
+    let last = (count - 1) as usize;
+    for i in 0..last {
+        le::put32(counts, 4 * i, room);
+        left -= room;
         room = page_size(page);
     }
+    le::put32(counts, 4 * last, left);
 }
 
 // Walks the pages of `length` bytes at `prp1`, with the page size number `page`, and stores each page's address in 8 bytes
@@ -203,12 +227,11 @@ pub fn walk(
     if refusal != 0 {
         return Walked::Refused(refusal);
     }
-    let count = pages_touched(prp1, length, page) as usize;
-    let mut pages = [0u64; MOST_PAGES];
-    let walked = data_pages(memory, prp1, prp2, count, page, &mut pages);
+    let count = pages_touched(prp1, length, page);
+    let walked = data_pages(memory, prp2, count, page);
     if let Walked::Pages(_, _) = walked {
-        store_addresses(&pages, count, addresses);
         store_counts(prp1, length, count, page, counts);
+        store_addresses(memory, prp1, prp2, count, page, addresses);
     }
     walked
 }

@@ -1,10 +1,8 @@
 // The reader of a completion ring.
 ghost use mathlib.Core.Path.{_≡_};
-ghost use Prim.Native.Nat.{_+_, _*_, _-_, _≤_, _<_};
+ghost use Prim.Native.Nat.{ℕ, _+_, _*_, _-_, _≤_, _<_};
 ghost use lib.ListN.{length};
 ghost use Rattle.ring.specs.Reader.{tagIn, readCount, readerRefusal, ringRead};
-use crate::slots::next_slot;
-use crate::slots::next_tag;
 
 // How many completions wait, or the refusal number.
 pub enum Waiting {
@@ -20,23 +18,34 @@ fn tag_in(ring: &[u8], slot: u64) -> u64
     le::get8(ring, (16 * slot + 14) as usize) % 2
 }
 
-// How many entries in a row, from `head` on and at most size - 1, have the tag expected.
+// How many entries in a row, from `slot` on and at most `most`, have the tag: none of them lies past the wrap.
+fn run(ring: &[u8], slot: u64, most: u64, tag: u64) -> u64
+    requires { ⌜ (slot + most ≤ 1024) × (16 * (slot + most) ≤ length (now ring)) ⌝ }
+    ensures { λ r. ⌜ (r ≤ most) × ((size : ℕ) → slot + most ≤ size → r ≡ readCount most (now (ring .entry)) size slot tag) ⌝ }
+{
+    let mut n: u64 = 0;
+    while n < most {
+        if tag_in(ring, slot + n) != tag {
+            return n;
+        }
+        n += 1;
+    }
+    n
+}
+
+// How many entries in a row, from `head` on and at most size - 1, have the tag expected: up to the wrap, and from there on.
 fn count(ring: &[u8], size: u64, head: u64, tag: u64) -> u64
     requires { ⌜ (2 ≤ size) × (size ≤ 1024) × (16 * size ≤ length (now ring)) × (head < size) × (tag < 2) ⌝ }
     ensures { λ r. ⌜ r ≡ readCount (size - 1) (now (ring .entry)) size head tag ⌝ }
 {
-    let mut n: u64 = 0;
-    let mut slot = head;
-    let mut expected = tag;
-    while n < size - 1 {
-        if tag_in(ring, slot) != expected {
-            return n;
-        }
-        expected = next_tag(size, slot, expected);
-        slot = next_slot(size, slot);
-        n += 1;
+    if head == 0 {
+        return run(ring, 0, size - 1, tag);
     }
-    n
+    let n = run(ring, head, size - head, tag);
+    if n < size - head {
+        return n;
+    }
+    n + run(ring, 0, head - 1, 1 - tag)
 }
 
 fn refusal(bytes: usize, size: u64, head: u64) -> u64

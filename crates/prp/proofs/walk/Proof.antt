@@ -1,12 +1,12 @@
 use borrow.Author.Needs.{needs}
-use mathlib.Core.Path.{_≡_, refl}
-use native.Mathlib.Omega.{arith}
+use mathlib.Core.Path.{_≡_, refl, _∙_}
 use Prim.Native.Nat.{_*_, _≤_}
 use lib.ListN.{length}
 use Rattle.le.specs.Memory.{put}
 use Rattle.prp.specs.Pages.{pageSize, split, byteCounts}
 use Rattle.prp.specs.Walk.{dataPages, pageWalk}
-use Rattle.prp.specs.Answer.{answer, addressesOf, numbers}
+use Rattle.prp.specs.Answer.{answer, pagesOf, addressesOf, numbers, Found}
+use Rattle.prp.proofs.Facts.{pages-length}
 use Rattle.prp.proofs.Whole.{Accepted, accepted, walk-refused, walk-accepted, none-found, all-found}
 use Rattle.prp.proofs.walk.Statement.{statement}
 use Rattle.prp.proofs.walk.Tie as tie
@@ -26,33 +26,41 @@ pages-touched-requires : tie.Need-pages-touched-requires
 pages-touched-requires c κs = (ready c .size, (ready c .some, ready c .few))
 
 data-pages-requires : tie.Need-data-pages-requires
-data-pages-requires c κs = (ready (c .before .before) .size, c .before .pages-touched .ensures .1)
-
--- the array's room, and the buffers'
-fits :
-    (c : tie.After-data-pages) →
-    c .before .before .pages-touched .result ≤ length (c .data-pages .last .1 .1 .1 .1 .1 .0)
-fits c = omega (arith, c .data-pages .kept .1 .1 .1 .1 .1 .0, c .before .before .pages-touched .ensures .1 .1)
+data-pages-requires c κs = (ready (c .before) .size, c .pages-touched .ensures .1)
 
 address-room :
-    (c : tie.After-pages-touched) →
-    8 * c .pages-touched .result ≤ length (c .before .before .before .before .before .before .args .addresses .now)
-address-room c = rw (c .pages-touched .ensures .0) (ready (c .before) .addresses)
+    (t : tie.After-pages-touched) →
+    8 * t .pages-touched .result ≤ length (t .before .before .before .before .before .before .args .addresses .now)
+address-room t = rw (t .pages-touched .ensures .0) (ready (t .before) .addresses)
 
 count-room :
-    (c : tie.After-pages-touched) →
-    4 * c .pages-touched .result ≤ length (c .before .before .before .before .before .before .args .counts .now)
-count-room c = rw (c .pages-touched .ensures .0) (ready (c .before) .counts)
+    (t : tie.After-pages-touched) →
+    4 * t .pages-touched .result ≤ length (t .before .before .before .before .before .before .args .counts .now)
+count-room t = rw (t .pages-touched .ensures .0) (ready (t .before) .counts)
 
-store-addresses-requires : tie.Need-store-addresses-requires
-store-addresses-requires c κs =
-    let d = c .before .before .before .before .before in
-    (fits d, address-room (d .before .before))
+-- the pages are found, and as many as are touched
+good :
+    (e : tie.After-enum-told) →
+    let d = e .before .before in
+    let a = d .before .before .before .before .before .before .before .args in
+    let w = dataPages (pageSize (a .page)) (a .memory .now) (a .prp1) (a .prp2) (d .before .pages-touched .result) in
+    Found w × (pagesOf (d .data-pages .result) ≡ d .before .pages-touched .result)
+good e =
+    let d = e .before .before in
+    let a = d .before .before .before .before .before .before .before .args in
+    let f = all-found _ _ (d .data-pages .ensures (a .prp1)) _ _ (e .enum-told .given .1) in
+    (f .0, f .1 ∙ pages-length _ _ _ _ _ (d .before .pages-touched .ensures .1 .0) (f .0))
 
 store-counts-requires : tie.Need-store-counts-requires
 store-counts-requires c κs =
-    let t = c .before .before .before .before .before .before .before .before .before .before .before in
-    (ready (t .before) .size, count-room t)
+    let t = c .before .before .before .before in
+    ((ready (t .before) .size, (ready (t .before) .some, t .pages-touched .ensures .1 .0)), (t .pages-touched .ensures .0, count-room t))
+
+store-addresses-requires : tie.Need-store-addresses-requires
+store-addresses-requires c κs =
+    let e = c .before .before .before .before .before in
+    let t = e .before .before .before in
+    ((ready (t .before) .size, (t .pages-touched .ensures .1 .0, (t .pages-touched .ensures .1 .1, address-room t))), good e .0)
 
 -- where nothing is refused before the walk, it is that of the pages
 walked :
@@ -63,17 +71,17 @@ walked t = walk-accepted _ _ _ _ _ _ (t .before .before .refusal-before-walk .en
 
 returns-2 : tie.Need-returns-2
 returns-2 c =
-    let e = c .before .before .before .before .before .before .before .before .before in
-    let d = e .before .before .before in
-    let f = all-found _ _ (d .data-pages .ensures .0) _ _ (d .before .before .pages-touched .result) _ (e .enum-told .given .1) (d .data-pages .ensures .1) (fits d) in
-    rw (walked (d .before .before), f .0, f .1) (d .data-pages .ensures .0, (c .before .before .before .before .before .before .store-addresses .ensures, c .before .before .store-counts .ensures))
+    let e = c .before .before .before .before .before .before .before .before in
+    let d = e .before .before in
+    rw (walked (d .before), good e .1) (d .data-pages .ensures _, (c .before .before .store-addresses .ensures, c .before .before .before .before .before .before .store-counts .ensures))
 
 returns-3 : tie.Need-returns-3
 unfolding numbers byteCounts split put
 returns-3 c =
-    let d = c .before .before .before in
-    let f = none-found _ _ (d .data-pages .ensures .0) _ (c .enum-told2 .given .1) in
-    rw (walked (d .before .before), f .0, f .1) (d .data-pages .ensures .0, (refl, refl))
+    let d = c .before .before in
+    let a = d .before .before .before .before .before .before .before .args in
+    let f = none-found _ _ (d .data-pages .ensures (a .prp1)) _ (c .enum-told2 .given .1) in
+    rw (walked (d .before), f .0, f .1) (d .data-pages .ensures (a .prp1), (refl, refl))
 
 pub walk-spec : {M : Type 1} → statement M
 walk-spec =
@@ -82,12 +90,10 @@ walk-spec =
     (λ c κs. search needs)
     returns
     pages-touched-requires
-    (λ c. search needs)
     data-pages-requires
     (λ c. search needs)
-    (λ c. search needs)
-    store-addresses-requires
     store-counts-requires
+    store-addresses-requires
     (λ c. search needs)
     (λ c. search needs)
     (λ c. search needs)

@@ -1,61 +1,57 @@
 use borrow.Author.Needs.{needs}
-use Prim.Native.Nat.{_+_, _-_, _≤_, _<_}
+use Prim.Native.Nat.{ℕ, suc, _+_, _-_, _<_}
+use mathlib.Core.List.{List}
 use mathlib.Core.Path.{_≡_, _∙_, sym}
-use native.Mathlib.Nat.{zero-add, sub-zero}
 use native.Mathlib.Omega.{arith}
-use Rattle.ring.specs.Reader.{readCount, tagIn}
-use Rattle.ring.proofs.Counts.{count-step, count-stop, count-all}
+use Rattle.ring.specs.Reader.{readCount}
+use Rattle.ring.proofs.Counts.{count-before, count-over}
 use Rattle.ring.proofs.reader.count.Statement.{statement}
 use Rattle.ring.proofs.reader.count.Tie as tie
 
-abbrev Inv-loop : tie.InvT-loop
-Inv-loop ring size head tag n₀ slot₀ expected₀ n slot expected =
-    (n ≤ size - 1) × (slot < size) × (expected < 2) × (readCount (size - 1) ring size head tag ≡ n + readCount (size - 1 - n) ring size slot expected)
+-- n entries match before the wrap, and n′ of those after it
+module _ (ring : List ℕ) (size head tag n : ℕ) (some : 0 < head) (low : head < size) (is : n ≡ readCount (size - head) ring size head tag) where
+  ends-before : n < size - head → n ≡ readCount (size - 1) ring size head tag
+  ends-before h =
+      let all : size - 1 ≡ size - head + (head - 1) = omega arith in
+      rw all (is ∙ sym (count-before ring size (size - head) (head - 1) head tag (omega arith)))
 
-abbrev μ-loop : tie.MeasureT-loop
-μ-loop ring size head tag n₀ slot₀ expected₀ n slot expected = size - n
+  goes-over : (n′ : ℕ) → n ≡ size - head → n′ ≡ readCount (head - 1) ring size 0 (1 - tag) → n + n′ ≡ readCount (size - 1) ring size head tag
+  goes-over n′ e h =
+      let j = size - head - 1 in
+      let ahead : size - head ≡ suc j = omega arith in
+      let all : size - 1 ≡ suc j + (head - 1) = omega arith in
+      let full : readCount (suc j) ring size head tag ≡ suc j = rw ahead at (sym is ∙ e) in
+      rw all (sym (count-over ring size j (head - 1) head tag (omega arith) full ∙ omega arith))
 
-loop-holds : tie.Need-loop-holds Inv-loop μ-loop
-loop-holds c = (search needs, search needs, search needs, simp (zero-add, sub-zero))
-
-returns : tie.Need-returns Inv-loop μ-loop
+returns : tie.Need-returns
 returns c =
-    let l = c .before .before .before in
-    let a = l .before .before .args in
-    let miss : tagIn (a .ring .now) (l .loop .slot) ≡ l .loop .expected → ⊥ = λ e. c .if1 .taken (c .before .tag-in .ensures ∙ e) in
-    omega (arith, l .loop .inv .3, count-stop (a .ring .now) (a .size) (a .size - 1) (l .loop .n) (l .loop .slot) (l .loop .expected) (c .before .before .loop-test .taken) miss)
+    let a = c .before .before .before .args in
+    c .run .ensures .1 (a .size) (omega arith) ∙ rw (c .before .if1 .taken)
 
-loop-again : tie.Need-loop-again Inv-loop μ-loop
-loop-again c =
-    let l = c .before .before .before .before .before in
-    let a = l .before .before .args in
-    let hit : tagIn (a .ring .now) (l .loop .slot) ≡ l .loop .expected = sym (c .before .before .before .tag-in .ensures) ∙ c .before .before .if1 .left in (
-      search needs,
-      search needs,
-      search needs,
-      cc (count-step (a .ring .now) (a .size) (a .size - 1) (l .loop .n) (l .loop .slot) (l .loop .expected) (c .before .before .before .before .loop-test .taken) hit),
-    )
-
-returns-2 : tie.Need-returns-2 Inv-loop μ-loop
+returns-2 : tie.Need-returns-2
 returns-2 c =
-    let l = c .before in
-    let a = l .before .before .args in
-    let e : l .loop .n ≡ a .size - 1 = search needs in
-    cc (count-all (a .ring .now) (a .size) (a .size - 1) (l .loop .slot) (l .loop .expected))
+    let a = c .before .before .before .before .args in
+    ends-before (a .ring .now) (a .size) (a .head) (a .tag) _ (search needs) (search needs) (c .before .run2 .ensures .1 (a .size) (omega arith)) (c .if2 .taken)
+
+returns-3 : tie.Need-returns-3
+returns-3 c =
+    let r = c .before .before .run2 in
+    let a = c .before .before .before .before .before .args in
+    goes-over (a .ring .now) (a .size) (a .head) (a .tag) _ (search needs) (search needs) (r .ensures .1 (a .size) (omega arith)) _ (search needs) (c .run3 .ensures .1 (a .size) (omega arith))
 
 pub count-spec : {M : Type 1} → statement M
 count-spec =
     tie.close
     (tie.spec
-    Inv-loop
-    μ-loop
-    loop-holds
     (λ c. search needs)
     (λ c κs. search needs)
     returns
-    (λ c κs. search needs)
+    (λ c. search needs)
     (λ c κs. search needs)
     (λ c. search needs)
+    returns-2
     (λ c. search needs)
-    loop-again
-    returns-2)
+    (λ c. search needs)
+    (λ c κs. search needs)
+    (λ c. search needs)
+    returns-3)
