@@ -1,6 +1,6 @@
 -- Laws of the bits of a number. Assumes nothing.
 use Prim.Native.Nat.{ℕ, zero, suc, _+_, _-_, _*_, _/_, _%_, _^_, _≤_, _<_}
-use mathlib.Core.Bool.{true, false}
+use mathlib.Core.Bool.{true, false, not}
 use mathlib.Core.Logic.{_⊎_, inl, inr, ⊎-elim}
 use mathlib.Core.Path.{_≡_, refl, sym, ap, _∙_}
 use native.Mathlib.Nat.{mod-lt, zero-lt-suc, one-mul}
@@ -66,6 +66,22 @@ set-high (suc k) x (suc n) h l = set-suc x n ∙ set-high k (x / 2) n (omega ari
 pub set-within : (k x n : ℕ) → x < 2 ^ k → isSet x n ≡ true → n < k
 set-within k x n h e =
     ⊎-elim (λ (l : n < k). l) (λ (l : k ≤ n). absurd (clash e (set-high k x n h l))) (lt-or-ge n k)
+
+-- ---- the complement of a number of k bits has the bits that the number has not
+
+half-rest : (k x : ℕ) → (2 ^ suc k - 1 - x) / 2 ≡ 2 ^ k - 1 - x / 2
+half-rest k x = omega arith
+
+pub set-rest : (k x n : ℕ) → x < 2 ^ k → n < k → isSet (2 ^ k - 1 - x) n ≡ not (isSet x n)
+set-rest zero x n h l = absurd (omega arith)
+set-rest (suc k) x zero h l =
+    ⊎-elim (λ (e : bit x 0 ≡ 0). is-set (2 ^ suc k - 1 - x) 0 (omega arith) ∙ ap not (sym (not-set x 0 e)))
+    (λ (e : bit x 0 ≡ 1). not-set (2 ^ suc k - 1 - x) 0 (omega arith) ∙ ap not (sym (is-set x 0 e))) (bit-cases x 0)
+set-rest (suc k) x (suc n) h l =
+    set-suc _ n
+    ∙ ap (λ (y : ℕ). isSet y n) (half-rest k x)
+    ∙ set-rest k (x / 2) n (omega arith) (omega arith)
+    ∙ ap not (sym (set-suc x n))
 
 -- ---- a bit is set by adding its power, and cleared by subtracting it; the others stay
 

@@ -5,11 +5,11 @@ use arbiter::Arbiter;
 
 // A ring of entries in memory; `exists` is false where there is none, and every number is then 0.
 pub struct Ring {
-    pub exists: bool,
     pub base: u64,
     pub size: u16,
     pub head: u16,
     pub tail: u16,
+    pub exists: bool,
 }
 
 pub struct SubmissionQueue {
@@ -38,10 +38,10 @@ pub struct Command {
 // Bit t of `free` is set where tag t is free; the commands at free tags mean nothing.
 pub struct Controller {
     pub sqs: [SubmissionQueue; 16],
-    pub cqs: [CompletionQueue; 16],
-    pub commands: [Command; 64],
     pub free: u64,
+    pub cqs: [CompletionQueue; 16],
     pub arbiter: Arbiter,
+    pub commands: [Command; 64],
 }
 
 // The answer of the constructor, a creation or a doorbell write: 0 or the refusal number, and the controller that is left.

@@ -1,15 +1,17 @@
 -- Laws of a finish. Assumes nothing.
-use Prim.Native.Nat.{ℕ, _+_, _-_, _*_, _≤_}
-use mathlib.Core.Bool.{true, false}
+use Prim.Native.Nat.{ℕ, _+_, _-_, _*_, _≤_, _<_}
+use mathlib.Core.Bool.{false}
 use mathlib.Core.List.{List, _++_}
-use mathlib.Core.Path.{_≡_, _∙_}
+use mathlib.Core.Path.{_≡_, sym, _∙_}
 use native.Mathlib.Nat.{zero-add}
 use native.Mathlib.Omega.{arith}
 use lib.Dec.{ltb, eqb}
-use lib.ListN.{length, set, take, drop, length-drop}
-use lib.Seq.{drop-drop}
-use borrow.Author.Tests.{le-ltb}
-use Rattle.rules.specs.Rules.{settle}
+use lib.ListN.{length, getD, set, take, drop, length-drop}
+use lib.Seq.{drop-drop, set-getD}
+use borrow.Author.Tests.{le-ltb, ltb-false, eq-eqb, ne-eqb}
+use Rattle.rules.specs.Rules.{Table, firstMatch, settle}
+use Rattle.rules.proofs.Tables.{Unapplied, passed, append-refused, append-passed}
+use Rattle.rules.proofs.Tests.{not-no}
 use Rattle.bits.specs.Tags.{givenBack}
 use Rattle.le.specs.Memory.{put}
 use Rattle.le.proofs.Parts.{rest-part, rest-put}
@@ -21,28 +23,20 @@ use Rattle.controller.specs.declared.Controller.{Controller}
 use Rattle.controller.specs.declared.Finished.the-variants as F
 use Rattle.controller.specs.Calls.{perform, ofFinish, finish}
 use Rattle.controller.specs.Finishing as finishing
-use Rattle.controller.specs.Finishing.{cqOf, statusOf, posted, unlinked, finishRefusal, finishedController, finishMemory, refusedFinish}
-use Rattle.controller.specs.State.{commandAt, outstanding}
-use Rattle.controller.specs.Valid.{Valid}
+use Rattle.controller.specs.Finishing.{cqOf, statusOf, released, posted, unlinked, finishRefusal, finishedController, finishMemory, refusedFinish}
+use Rattle.controller.specs.State.{noCommand, sqAt, cqAt, commandAt}
+use Rattle.controller.specs.Valid.{RingOk, Valid}
+use Rattle.controller.proofs.Outstanding.{out-set}
 use Rattle.rules.proofs.Cases.{pick-cases}
-use Rattle.engine.specs.declared.finish.Posting.{Posting}
-use Rattle.engine.specs.Posting.{postingOf, PostingOk}
+use Rattle.queues.proofs.Rings.{outside-halves, cq-inside}
+use Rattle.engine.specs.Halves.{halfAt}
+use Rattle.engine.specs.Refusals.{callRules, postingRules}
 use Rattle.engine.proofs.Answers.{refused}
 
 -- a status is not above what the verdict and the status given are not above
 pub status-to : (n verdict given : ℕ) → verdict ≤ n → given ≤ n → statusOf verdict given ≤ n
 unfolding statusOf
 status-to n verdict given v g = pick-cases (λ (k : ℕ). k ≤ n) (eqb verdict 0) given verdict (λ e. g) (λ e. v)
-
--- what an outstanding command takes up is in order
-pub posting-ok : (c : Controller) (tag : ℕ) → Valid c → outstanding (c .free) tag ≡ true → PostingOk (postingOf c tag)
-posting-ok c tag v o =
-    record {
-      ring = v .cq-ok (cqOf c tag) (v .sq-cq (commandAt c tag .sq) (v .command-sq tag o));
-      phase-low = v .cq-phase (cqOf c tag);
-      cq-low = v .sq-cq-low (commandAt c tag .sq);
-      second-low = v .command-ok tag .second-low;
-    }
 
 -- what the writer leaves in the memory from o on is put in at o
 pub written-put : (m : List ℕ) (o : ℕ) (e : Completion) (tag : ℕ) {w : List ℕ} → o + 16 ≤ length m → e .status ≤ 32767
@@ -53,12 +47,72 @@ written-put m o e tag {w} h s f =
     let room : ltb (length (drop o m)) 16 ≡ false = le-ltb (length (drop o m)) 16 (rw length-drop (omega arith)) in
     rest-put o m w ∙ rw (f, rest-part, le-ltb 32767 (e .status) s, room, zero-add (length (completionBytes e tag)), drop-drop)
 
--- the controller that is left
-pub settled-is : (c : Controller) (tag s : ℕ) {p : Posting} {y : CompletionQueue} {ks : List Command} {f : ℕ} → p ≡ postingOf c tag
-    → y ≡ posted (p .queue) → ks ≡ unlinked (c .commands) (p .command .second) s → f ≡ givenBack (c .free) tag
-    → _≡_ {A = Controller} (record { sqs = c .sqs; cqs = set (c .cqs) (p .cq) y; commands = ks; free = f; arbiter = c .arbiter }) (finishedController c tag s)
-unfolding finishedController
-settled-is c tag s e y k f = rw (y, k, f, e)
+-- the store at the half's tag unlinks the commands, also where there is no second half and it changes nothing
+module _ (ks : List Command) (second status j : ℕ) where
+  pub stays : second ≡ 0 → {half : Command} → half ≡ getD ks j noCommand → set ks j half ≡ unlinked ks second status
+  unfolding unlinked
+  stays z h = rw (h, set-getD, eq-eqb second 0 z)
+
+  pub unlinks : (tag : ℕ) → j ≡ halfAt tag second → (second ≡ 0 → ⊥) → {half : Command} → half ≡ released status (getD ks j noCommand)
+      → set ks j half ≡ unlinked ks second status
+  unfolding halfAt unlinked
+  unlinks tag e n h = rw (h, e, ne-eqb second 0 n)
+
+-- the completion queue of a tag's command
+abbrev pub queueOf : Controller → ℕ → CompletionQueue
+queueOf c tag = cqAt c (cqOf c tag)
+
+-- what is known of a command past the first part of the table
+pub record Postable (c : Controller) (n tag status : ℕ) : Type 0 where
+  pub tag-low : tag < 64
+  pub sq-low : commandAt c tag .sq < 16
+  pub second-low : commandAt c tag .second ≤ 64
+  pub cq-low : cqOf c tag < 16
+  pub ring : RingOk (queueOf c tag .ring)
+  pub within : queueOf c tag .ring .base + 16 * queueOf c tag .ring .size ≤ n
+  pub phase-low : queueOf c tag .phase ≤ 1
+  pub status-low : statusOf (commandAt c tag .verdict) status ≤ 32767
+
+-- the table by its two parts
+module _ (c : Controller) (n tag status : ℕ) where
+  abbrev onCall : Table
+  onCall = callRules (c .sqs) (c .cqs) (c .free) n tag status
+
+  abbrev onPosting : Table
+  onPosting = postingRules (commandAt c tag) (queueOf c tag .ring)
+
+  parts : finishRefusal c n tag status ≡ firstMatch (onCall ++ onPosting)
+  unfolding finishRefusal
+  parts = rw outside-halves
+
+  module _ {k : ℕ} (e : k ≡ firstMatch onCall) where
+    pub refused-call : (k ≡ 0 → ⊥) → k ≡ finishRefusal c n tag status
+    refused-call h = e ∙ sym (parts ∙ append-refused onCall onPosting (λ z. h (e ∙ z)))
+
+    module _ (z : k ≡ 0) where
+      passed-call : Unapplied onCall
+      passed-call = passed onCall tt (sym e ∙ z)
+
+      pub past-call : {l : ℕ} → l ≡ firstMatch onPosting → l ≡ finishRefusal c n tag status
+      past-call f = f ∙ sym (parts ∙ append-passed onCall onPosting passed-call)
+
+      pub postable : Valid c → Postable c n tag status
+      postable v =
+          let p = passed-call in
+          let o = not-no _ (p .1 .0) in
+          let k = v .command-ok tag in
+          let l = v .sq-cq-low (commandAt c tag .sq) in
+          let y = v .sq-cq (commandAt c tag .sq) (v .command-sq tag o) in
+          record {
+            tag-low = out-set _ _ o .0;
+            sq-low = k .sq-low;
+            second-low = k .second-low;
+            cq-low = l;
+            ring = v .cq-ok (cqOf c tag) y;
+            within = cq-inside c n (outside-halves c n ∙ p .0) (cqOf c tag) l y;
+            phase-low = v .cq-phase (cqOf c tag);
+            status-low = status-to 32767 _ _ (k .verdict-low) (ltb-false 32767 status (p .1 .1 .0));
+          }
 
 -- what a finish comes to
 module _ (c : Controller) (m : List ℕ) (tag status result : ℕ) {n : ℕ} (e : n ≡ finishRefusal c (length m) tag status) where
@@ -66,10 +120,17 @@ module _ (c : Controller) (m : List ℕ) (tag status result : ℕ) {n : ℕ} (e 
   unfolding finishing.finish finishMemory
   finish-refused h = rw (← refused (λ k. m) _ e h, ← refused (refusedFinish c) _ e h)
 
-  pub finish-done : n ≡ 0 → {p : Posting} {s : ℕ} {left : List ℕ} {d : Controller} → p ≡ postingOf c tag → s ≡ statusOf (p .command .verdict) status
-      → left ≡ put m (p .queue .ring .base + 16 * p .queue .ring .tail)
-      (completionBytes (completion result (p .sqhd) (p .command .sq) (p .command .cid) s) (p .queue .phase))
-      → d ≡ finishedController c tag s
-      → ofFinish left (record { answer = F.Slot (p .queue .ring .tail); controller = d }) ≡ perform c m (finish tag status result)
-  unfolding finishing.finish finishMemory settle
-  finish-done z p s l d = rw (l, d, s, p, ← e, z)
+  pub finish-done : n ≡ 0 → {s free : ℕ} {left : List ℕ} {y : CompletionQueue} {ks : List Command}
+      → (let k = commandAt c tag in
+      let q = queueOf c tag in
+      s ≡ statusOf (k .verdict) status
+      → left ≡ put m (q .ring .base + 16 * q .ring .tail) (completionBytes (completion result (sqAt c (k .sq) .ring .head) (k .sq) (k .cid) s) (q .phase))
+      → y ≡ posted q → ks ≡ unlinked (c .commands) (k .second) s → free ≡ givenBack (c .free) tag
+      → ofFinish left
+      (record {
+        answer = F.Slot (q .ring .tail);
+        controller = record { sqs = c .sqs; cqs = set (c .cqs) (cqOf c tag) y; commands = ks; free = free; arbiter = c .arbiter };
+      })
+      ≡ perform c m (finish tag status result))
+  unfolding finishing.finish finishMemory finishedController settle
+  finish-done z s l y k f = rw (l, y, k, s, f, ← e, z)

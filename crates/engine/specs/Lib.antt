@@ -1,2 +1,4 @@
 pub mod Rings
-pub mod Posting
+pub mod Refusals
+pub mod Halves
+pub mod Doorbells

@@ -8,6 +8,7 @@ ghost use Rattle.controller.specs.Calls.{Reachable, perform, ofChanged, tailWri
 ghost use Rattle.controller.specs.Doorbell.{validTail, validHead, tailRefusal, headRefusal, mark};
 ghost use Rattle.controller.specs.State.{noCq, withHead, withTail, sqWithRing, cqWithRing};
 ghost use Rattle.controller.specs.Valid.{RingOk};
+ghost use Rattle.engine.specs.Doorbells.{rungBy};
 use controller::Changed;
 use controller::CompletionQueue;
 use controller::Controller;
@@ -76,33 +77,55 @@ fn tail_refusal(sqs: [SubmissionQueue; 16], id: u64) -> u64
     0
 }
 
+// A submission queue after a tail write, and the refusal number.
+struct Rung {
+    refusal: u64,
+    queue: SubmissionQueue,
+}
+
+// A tail write of a value to a queue that takes tail writes.
+fn ring_tail(q: SubmissionQueue, value: u64) -> Rung
+    requires { ⌜ RingOk (q .ring) ⌝ }
+    ensures { λ r. ⌜ r ≡ rungBy q value ⌝ }
+{
+    if takes_tail(q.ring, value) {
+        return Rung {
+            refusal: 0,
+            queue: with_tail(q, value),
+        };
+    }
+    Rung {
+        refusal: 10,
+        queue: marked(q),
+    }
+}
+
 // Writes the tail doorbell of a submission queue.
 pub fn tail_write(c: Controller, id: u64, value: u64) -> Changed
     requires { ⌜ Reachable c ⌝ }
     ensures { λ r. ⌜ ((m : List ℕ) → ofChanged m r ≡ perform c m (tailWrite id value)) ⌝ }
 {
-    let sqs = c.sqs;
-    let refusal = tail_refusal(sqs, id);
-    if refusal != 0 {
-        return Changed {
-            refusal: refusal,
-            controller: c,
-        };
+    let mut sqs = c.sqs;
+    let cqs = c.cqs;
+    let arbiter = c.arbiter;
+    let commands = c.commands;
+    let mut refusal = tail_refusal(sqs, id);
+    if refusal == 0 {
+        let i = id as usize;
+        let w = ring_tail(sqs[i], value);
+        let queue = w.queue;
+        sqs[i] = queue;
+        refusal = w.refusal;
     }
-    let i = id as usize;
-    let q = sqs[i];
-    let mut next = c;
-    if takes_tail(q.ring, value) {
-        next.sqs[i] = with_tail(q, value);
-        return Changed {
-            refusal: 0,
-            controller: next,
-        };
-    }
-    next.sqs[i] = marked(q);
     Changed {
-        refusal: 10,
-        controller: next,
+        refusal: refusal,
+        controller: Controller {
+            sqs: sqs,
+            free: c.free,
+            cqs: cqs,
+            arbiter: arbiter,
+            commands: commands,
+        },
     }
 }
 
@@ -130,19 +153,23 @@ pub fn head_write(c: Controller, id: u64, value: u64) -> Changed
     requires { ⌜ Reachable c ⌝ }
     ensures { λ r. ⌜ ((m : List ℕ) → ofChanged m r ≡ perform c m (headWrite id value)) ⌝ }
 {
-    let cqs = c.cqs;
+    let sqs = c.sqs;
+    let mut cqs = c.cqs;
+    let arbiter = c.arbiter;
+    let commands = c.commands;
     let refusal = head_refusal(cqs, id, value);
-    if refusal != 0 {
-        return Changed {
-            refusal: refusal,
-            controller: c,
-        };
+    if refusal == 0 {
+        let i = id as usize;
+        cqs[i] = with_head(cqs[i], value);
     }
-    let i = id as usize;
-    let mut next = c;
-    next.cqs[i] = with_head(cqs[i], value);
     Changed {
-        refusal: 0,
-        controller: next,
+        refusal: refusal,
+        controller: Controller {
+            sqs: sqs,
+            free: c.free,
+            cqs: cqs,
+            arbiter: arbiter,
+            commands: commands,
+        },
     }
 }

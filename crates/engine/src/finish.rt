@@ -4,45 +4,22 @@ ghost use Prim.Native.Nat.{_+_, _*_, _≤_, _<_};
 ghost use lib.ListN.{length};
 ghost use Rattle.le.specs.Memory.{put};
 ghost use Rattle.entry.specs.Completion.{completion, completionBytes};
+ghost use Rattle.rules.specs.Rules.{firstMatch};
 ghost use Rattle.controller.specs.Calls.{Reachable, perform, ofFinish, finish as finishCall};
-ghost use Rattle.controller.specs.Finishing.{full, statusOf, released, unlinked, posted, finishRefusal, finishedController};
-ghost use Rattle.controller.specs.Valid.{RingOk, Valid};
-ghost use Rattle.engine.specs.Posting.{postingOf, PostingOk};
+ghost use Rattle.controller.specs.Finishing.{full, statusOf, released, posted};
+ghost use Rattle.controller.specs.Valid.{RingOk};
+ghost use Rattle.engine.specs.Halves.{halfAt};
+ghost use Rattle.engine.specs.Refusals.{callRules, postingRules};
 use controller::Command;
 use controller::CompletionQueue;
 use controller::Controller;
 use controller::Finish;
 use controller::Finished;
 use controller::Ring;
+use controller::SubmissionQueue;
 use ring::slots::distance_in;
 use ring::slots::next_slot;
 use ring::slots::next_tag;
-
-// What a finish takes up: the command, the head of its submission queue, and its completion queue with that one's id.
-struct Posting {
-    command: Command,
-    sqhd: u16,
-    cq: u8,
-    queue: CompletionQueue,
-}
-
-fn posting_of(c: Controller, tag: u64) -> Posting
-    requires { ⌜ Valid c × (tag < 64) ⌝ }
-    ensures { λ r. ⌜ r ≡ postingOf c tag ⌝ }
-{
-    let t = tag as usize;
-    let k = c.commands[t];
-    let s = k.sq as usize;
-    let x = c.sqs[s];
-    let i = x.cq as usize;
-    let y = c.cqs[i];
-    Posting {
-        command: k,
-        sqhd: x.ring.head,
-        cq: x.cq,
-        queue: y,
-    }
-}
 
 // Whether the ring has no free slot.
 fn is_full(r: Ring) -> bool
@@ -52,30 +29,41 @@ fn is_full(r: Ring) -> bool
     distance_in(r.size as u64, r.head as u64, r.tail as u64) == r.size as u64 - 1
 }
 
-// Why a finish is refused in `n` bytes of memory: 0, or the refusal number.
-fn finish_refusal(c: Controller, n: u64, tag: u64, status: u64) -> u64
-    requires { ⌜ Valid c ⌝ }
-    ensures { λ r. ⌜ r ≡ finishRefusal c n tag status ⌝ }
+// Why a finish is refused in `n` bytes of memory, whatever its command is: 0, or the refusal number.
+fn call_refusal(
+    sqs: [SubmissionQueue; 16],
+    cqs: [CompletionQueue; 16],
+    free: u64,
+    n: u64,
+    tag: u64,
+    status: u64,
+) -> u64
+    ensures { λ r. ⌜ r ≡ firstMatch (callRules sqs cqs free n tag status) ⌝ }
 {
-    let sqs = c.sqs;
     if queues::sqs_outside(sqs, n) {
         return 5;
     }
-    let cqs = c.cqs;
     if queues::cqs_outside(cqs, n) {
         return 5;
     }
-    if !queues::is_outstanding(c.free, tag) {
+    if !queues::is_outstanding(free, tag) {
         return 14;
     }
     if Controller::LAST_STATUS < status {
         return 15;
     }
-    let p = posting_of(c, tag);
-    if p.command.first != 0 {
+    0
+}
+
+// Why a command cannot be posted to the ring: 0, or the refusal number.
+fn posting_refusal(k: Command, r: Ring) -> u64
+    requires { ⌜ RingOk r ⌝ }
+    ensures { λ x. ⌜ x ≡ firstMatch (postingRules k r) ⌝ }
+{
+    if k.first != 0 {
         return 16;
     }
-    if is_full(p.queue.ring) {
+    if is_full(r) {
         return 17;
     }
     0
@@ -89,19 +77,19 @@ fn status_of(verdict: u16, given: u64) -> u64
 }
 
 // Writes the completion into the slot at the queue's tail.
-fn post(memory: &mut [u8], p: Posting, status: u64, result: u32)
-    requires { ⌜ RingOk (p .queue .ring) × (p .queue .ring .base + 16 * p .queue .ring .size ≤ length (now memory)) × (status ≤ 32767) ⌝ }
-    ensures { λ _. ⌜ now (memory .exit) ≡ put (now (memory .entry)) (p .queue .ring .base + 16 * p .queue .ring .tail) (completionBytes (completion result (p .sqhd) (p .command .sq) (p .command .cid) status) (p .queue .phase)) ⌝ }
+fn post(memory: &mut [u8], q: CompletionQueue, k: Command, sqhd: u16, status: u64, result: u32)
+    requires { ⌜ RingOk (q .ring) × (q .ring .base + 16 * q .ring .size ≤ length (now memory)) × (status ≤ 32767) ⌝ }
+    ensures { λ _. ⌜ now (memory .exit) ≡ put (now (memory .entry)) (q .ring .base + 16 * q .ring .tail) (completionBytes (completion result sqhd (k .sq) (k .cid) status) (q .phase)) ⌝ }
 {
-    let o = (p.queue.ring.base + 16 * (p.queue.ring.tail as u64)) as usize;
+    let o = (q.ring.base + 16 * (q.ring.tail as u64)) as usize;
     entry::completion::write(
         &mut memory[o..],
         result,
-        p.sqhd,
-        p.command.sq as u16,
-        p.command.cid,
+        sqhd,
+        k.sq as u16,
+        k.cid,
         status,
-        p.queue.phase as u64,
+        q.phase as u64,
     );
 }
 
@@ -133,52 +121,63 @@ fn release(k: Command, status: u64) -> Command
     half
 }
 
-// The commands once a first half has posted the status. `second` is its second half's tag plus 1, or 0.
-fn unlink(commands: [Command; 64], second: u8, status: u64) -> [Command; 64]
-    requires { ⌜ second ≤ 64 ⌝ }
-    ensures { λ r. ⌜ r ≡ unlinked commands second status ⌝ }
+// The tag of a first half's second half, or where there is none the tag given, whose command then stays as it is. `second` is the
+// second half's tag plus 1, or 0.
+fn half_at(tag: u64, second: u8) -> usize
+    requires { ⌜ (tag < 64) × (second ≤ 64) ⌝ }
+    ensures { λ r. ⌜ (r ≡ halfAt tag second) × (r < 64) ⌝ }
 {
     if second == 0 {
-        return commands;
+        return tag as usize;
     }
-    let i = (second - 1) as usize;
-    let mut next = commands;
-    let half = commands[i];
-    next[i] = release(half, status);
-    next
+    (second - 1) as usize
 }
 
-// The controller once the tag's command has posted the status.
-fn settled(c: Controller, p: Posting, tag: u64, status: u64) -> Controller
-    requires { ⌜ PostingOk p × (p ≡ postingOf c tag) ⌝ }
-    ensures { λ r. ⌜ r ≡ finishedController c tag status ⌝ }
-{
-    let i = p.cq as usize;
-    let commands = c.commands;
-    let mut next = c;
-    next.cqs[i] = with_posted(p.queue);
-    next.commands = unlink(commands, p.command.second, status);
-    next.free = bits::give_back(c.free, tag);
-    next
-}
-
-// Finishes an outstanding command: posts its completion and frees its tag.
+// Finishes an outstanding command: posts its completion and frees its tag. For speed the arrays are changed here alone, and the
+// answer is built in one place.
 pub fn finish(c: Controller, memory: &mut [u8], tag: u64, status: u64, result: u32) -> Finish
     requires { ⌜ Reachable c ⌝ }
     ensures { λ r. ⌜ ofFinish (now (memory .exit)) r ≡ perform c (now (memory .entry)) (finishCall tag status result) ⌝ }
 {
-    let refusal = finish_refusal(c, memory.len() as u64, tag, status);
-    if refusal != 0 {
-        return Finish {
-            answer: Finished::Refused(refusal),
-            controller: c,
-        };
+    let sqs = c.sqs;
+    let mut cqs = c.cqs;
+    let mut commands = c.commands;
+    let mut free = c.free;
+    let arbiter = c.arbiter;
+    let refusal = call_refusal(sqs, cqs, free, memory.len() as u64, tag, status);
+    let mut answer = Finished::Refused(refusal);
+    if refusal == 0 {
+        let t = tag as usize;
+        let k = commands[t];
+        let s = k.sq as usize;
+        let x = sqs[s];
+        let i = x.cq as usize;
+        let y = cqs[i];
+        let refusal = posting_refusal(k, y.ring);
+        answer = Finished::Refused(refusal);
+        if refusal == 0 {
+            let given = status_of(k.verdict, status);
+            post(memory, y, k, x.ring.head, given, result);
+            cqs[i] = with_posted(y);
+            let j = half_at(tag, k.second);
+            let half = commands[j];
+            commands[j] = if k.second == 0 {
+                half
+            } else {
+                release(half, given)
+            };
+            free = bits::give_back(free, tag);
+            answer = Finished::Slot(y.ring.tail);
+        }
     }
-    let p = posting_of(c, tag);
-    let given = status_of(p.command.verdict, status);
-    post(memory, p, given, result);
     Finish {
-        answer: Finished::Slot(p.queue.ring.tail),
-        controller: settled(c, p, tag, given),
+        answer: answer,
+        controller: Controller {
+            sqs: sqs,
+            free: free,
+            cqs: cqs,
+            arbiter: arbiter,
+            commands: commands,
+        },
     }
 }

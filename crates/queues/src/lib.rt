@@ -5,6 +5,7 @@ ghost use lib.Dec.{ltb};
 ghost use Rattle.controller.specs.State.{outstanding};
 ghost use Rattle.queues.specs.Rings.{existing, someSq, someCq, endsPast};
 use controller::CompletionQueue;
+use controller::Controller;
 use controller::Ring;
 use controller::SubmissionQueue;
 
@@ -12,7 +13,7 @@ use controller::SubmissionQueue;
 pub fn is_outstanding(free: u64, tag: u64) -> bool
     ensures { λ r. ⌜ r ≡ outstanding free tag ⌝ }
 {
-    if 63 < tag {
+    if Controller::LAST_TAG < tag {
         return false;
     }
     !bits::is_free(free, tag)

@@ -1,6 +1,6 @@
 -- Laws of the survey: one queue more. Assumes nothing.
 use Prim.Native.Nat.{ℕ, _+_}
-use mathlib.Core.Bool.{Bool, true, false, _&&_, _||_}
+use mathlib.Core.Bool.{Bool, true, false, not, _||_}
 use mathlib.Core.List.{List}
 use mathlib.Core.Logic.{⊎-elim}
 use mathlib.Core.Path.{_≡_, sym, ap, _∙_}
@@ -8,9 +8,9 @@ use native.Mathlib.Omega.{arith}
 use lib.Dec.{eqb}
 use lib.ListN.{getD}
 use borrow.Author.Count.{below-more}
-use Rattle.rules.proofs.Tests.{bool-cases}
+use Rattle.rules.proofs.Tests.{bool-cases, not-no, not-yes}
 use Rattle.bits.specs.Bits.{someBelow}
-use Rattle.bits.proofs.Masks.{mask-lt}
+use Rattle.bits.proofs.Masks.{mask-lt, mask-no}
 use Rattle.bits.proofs.Some.{some-found, some-none, some-which, none-some}
 use Rattle.controller.specs.declared.SubmissionQueue.{SubmissionQueue}
 use Rattle.controller.specs.State.{noSq}
@@ -35,22 +35,42 @@ unfolding surveyed
 survey-below qs n i =
     record { all = mask-lt _ i; urgent = mask-lt _ i; high = mask-lt _ i; medium = mask-lt _ i; low = mask-lt _ i }
 
--- a survey with queue i
-module _ (qs : List SubmissionQueue) (n i : ℕ) {s : Survey} (e : s ≡ surveyed qs n i) {q : SubmissionQueue} (f : q ≡ getD qs i noSq) where
-  pub survey-next : {o : Bool} → o ≡ existing (endsPast n) 64 (q .ring) → {w : Bool} → w ≡ candidate q → {a u h m l : ℕ}
-      → Grown i (s .candidates .all) w a
-      → Grown i (s .candidates .urgent) (w && eqb (q .class) 0) u
-      → Grown i (s .candidates .high) (w && eqb (q .class) 1) h
-      → Grown i (s .candidates .medium) (w && eqb (q .class) 2) m
-      → Grown i (s .candidates .low) (w && eqb (q .class) 3) l
+-- a survey with queue i: the masks stay where it is no candidate, and have its bit where it is one
+module _ (qs : List SubmissionQueue) (n i : ℕ) {s : Survey} (e : s ≡ surveyed qs n i) {q : SubmissionQueue} (f : q ≡ getD qs i noSq)
+    {o : Bool} (x : o ≡ existing (endsPast n) 64 (q .ring)) {w : Bool} (y : w ≡ candidate q) where
+  pub survey-same : not w ≡ true
+      → _≡_ {A = Survey} (record { outside = s .outside || o; candidates = s .candidates }) (surveyed qs n (i + 1))
+  unfolding surveyed
+  survey-same h =
+      let no : candidate (getD qs i noSq) ≡ false = ap candidate (sym f) ∙ sym y ∙ not-yes w h in
+      let of : (k : ℕ) → candidateOf k (getD qs i noSq) ≡ false = λ k. rw no in
+      rw (
+        mask-no (λ j. candidate (getD qs j noSq)) i no,
+        mask-no (λ j. candidateOf 0 (getD qs j noSq)) i (of 0),
+        mask-no (λ j. candidateOf 1 (getD qs j noSq)) i (of 1),
+        mask-no (λ j. candidateOf 2 (getD qs j noSq)) i (of 2),
+        mask-no (λ j. candidateOf 3 (getD qs j noSq)) i (of 3),
+        some-next (λ j. existing (endsPast n) 64 (getD qs j noSq .ring)) i,
+        x,
+        f,
+        e,
+      )
+
+  pub survey-next : not w ≡ false → {a u h m l : ℕ}
+      → Grown i (s .candidates .all) true a
+      → Grown i (s .candidates .urgent) (eqb (q .class) 0) u
+      → Grown i (s .candidates .high) (eqb (q .class) 1) h
+      → Grown i (s .candidates .medium) (eqb (q .class) 2) m
+      → Grown i (s .candidates .low) (eqb (q .class) 3) l
       → _≡_ {A = Survey}
       (record { outside = s .outside || o; candidates = record { all = a; urgent = u; high = h; medium = m; low = l } })
       (surveyed qs n (i + 1))
   unfolding surveyed
-  survey-next x {w} y ga gu gh gm gl =
-      let of : (k : ℕ) → (w && eqb (q .class) k) ≡ candidateOf k (getD qs i noSq) = λ k. rw (y, f) in
+  survey-next g ga gu gh gm gl =
+      let yes : true ≡ candidate (getD qs i noSq) = sym (not-no w g) ∙ y ∙ ap candidate f in
+      let of : (k : ℕ) → eqb (q .class) k ≡ candidateOf k (getD qs i noSq) = λ k. rw (← yes, f) in
       rw (
-        ga (λ j. candidate (getD qs j noSq)) (ap (λ (z : Survey). z .candidates .all) e) (y ∙ ap candidate f),
+        ga (λ j. candidate (getD qs j noSq)) (ap (λ (z : Survey). z .candidates .all) e) yes,
         gu (λ j. candidateOf 0 (getD qs j noSq)) (ap (λ (z : Survey). z .candidates .urgent) e) (of 0),
         gh (λ j. candidateOf 1 (getD qs j noSq)) (ap (λ (z : Survey). z .candidates .high) e) (of 1),
         gm (λ j. candidateOf 2 (getD qs j noSq)) (ap (λ (z : Survey). z .candidates .medium) e) (of 2),

@@ -1,76 +1,150 @@
 -- Laws of what a start takes. Assumes nothing.
-use Prim.Native.Nat.{ℕ, _+_}
+use Prim.Native.Nat.{ℕ, _≤_, _<_, _^_}
 use mathlib.Core.Bool.{Bool, true, false, _||_}
 use mathlib.Core.List.{List}
-use mathlib.Core.Path.{_≡_, refl, sym}
-use lib.ListN.{length}
-use Rattle.rules.specs.Rules.{settle}
+use mathlib.Core.Path.{_≡_, refl, sym, ap, _∙_}
+use native.Mathlib.Omega.{arith}
+use lib.Dec.{eqb}
+use lib.ListN.{length, set}
+use lib.Seq.{set-set}
+use borrow.Author.Tests.{eq-eqb, ne-eqb}
+use Rattle.rules.specs.Rules.{pick, settle}
 use Rattle.rules.proofs.Tests.{pick-yes, pick-no}
 use Rattle.bits.specs.Tags.{takenOne, takenTwo}
+use Rattle.bits.specs.declared.TakenOne.{TakenOne}
 use Rattle.bits.specs.declared.TakenOne.the-variants.{Tag, NoneFree}
+use Rattle.bits.specs.declared.TakenTwo.{TakenTwo}
 use Rattle.bits.specs.declared.TakenTwo.the-variants.{Tags, TooFew}
+use Rattle.bits.proofs.Tags.{one-taken, two-taken}
 use Rattle.entry.specs.declared.submission.Submission.{Submission}
 use Rattle.arbiter.specs.Arbiter.{choice}
 use Rattle.arbiter.specs.declared.Arbiter.{Arbiter}
 use Rattle.arbiter.specs.declared.Chosen.{Chosen}
 use Rattle.arbiter.specs.declared.Chosen.the-variants.{Queue}
+use Rattle.controller.specs.declared.Ring.{Ring}
+use Rattle.controller.specs.declared.SubmissionQueue.{SubmissionQueue}
+use Rattle.controller.specs.declared.Command.{Command}
 use Rattle.controller.specs.declared.Controller.{Controller}
 use Rattle.controller.specs.declared.Start.{Start}
-use Rattle.controller.specs.declared.Started.the-variants as S
 use Rattle.controller.specs.State.{sqAt}
 use Rattle.controller.specs.Rings.{outside}
-use Rattle.controller.specs.Verdict.{verdictOne, verdictPair}
+use Rattle.controller.specs.Verdict.{inUse, verdictOne, verdictPair}
 use Rattle.controller.specs.Valid.{Valid}
-use Rattle.controller.specs.Starting.{candidates, command, refusedStart, oneTaken, pairTaken, used, takeOne, takePair, takeFrom, start}
+use Rattle.controller.specs.Starting.{candidates, passed, refusedStart, oneTaken, pairTaken, withOne, withTwo, takeOne, takePair, takeFrom, start}
 use Rattle.controller.proofs.Choosing.{chosen}
 use Rattle.controller.proofs.Validity.{candidate-here}
 use Rattle.queues.specs.Rings.{someCq, endsPast}
 use Rattle.queues.proofs.Rings.{outside-halves, sq-inside}
+use Rattle.starter.specs.declared.head.Head.{Head}
 use Rattle.starter.specs.declared.head.Head.the-variants.{One, Pair}
 use Rattle.starter.specs.declared.survey.Survey.{Survey}
+use Rattle.starter.specs.declared.take.Taken.{Taken}
 use Rattle.starter.specs.Survey.{surveyed}
-use Rattle.starter.specs.Taking.{headOf, Inside, Known, withTaken, withCommand}
+use Rattle.starter.specs.Taking.{headOf, Inside, tooFew, single, double, ofOne, ofTwo, takenAlone, takenBoth, takenOf}
 use Rattle.starter.proofs.Heads.{head-one, head-pair}
 
 or-same : (b : Bool) → (b || b) ≡ b
 or-same true = refl
 or-same false = refl
 
--- ---- what is taken from the queue chosen
+-- ---- what is taken
 
-module _ (c : Controller) (m : List ℕ) (id : ℕ) (a : Arbiter) where
-  pub one-none : takenOne (c .free) ≡ NoneFree → refusedStart c 13 ≡ takeOne c m id a
-  unfolding takeOne
-  one-none e = rw e
+-- at most two commands, and tags that there are
+pub record Bounded (k : Taken) : Type 0 where
+  pub few : k .count ≤ 2
+  pub first : k .first < 64
+  pub second : k .second < 64
 
-  pub one-is : {e : Submission} → headOf m id (sqAt c id .ring) ≡ One e → {t left : ℕ} → takenOne (c .free) ≡ Tag t left
-      → {u : Bool} → u ≡ (used c id e || used c id e) → {v : ℕ} → v ≡ verdictOne id e u → {n : Controller} → n ≡ withTaken c id 1 left a
-      → _≡_ {A = Start}
-      (record { answer = S.One id t (sqAt c id .ring .head) v; controller = withCommand n t (command id (e .cid) v 0 0) })
-      (takeOne c m id a)
-  unfolding takeOne oneTaken
-  one-is h q x y z = rw (z, y, x, or-same, head-one m id (sqAt c id .ring) h .1, q)
+module _ (ks : List Command) (free id slot : ℕ) where
+  module _ (e : Submission) where
+    pub alone-none : takenOne free ≡ NoneFree → tooFew ≡ takenAlone ks free id slot e
+    unfolding takenAlone
+    alone-none q = rw q
 
-  pub pair-none : takenTwo (c .free) ≡ TooFew → refusedStart c 13 ≡ takePair c m id a
-  unfolding takePair
-  pair-none e = rw e
+    pub alone-is : {t left : ℕ} → takenOne free ≡ Tag t left → {u : Bool} → u ≡ (inUse ks free id (e .cid) || inUse ks free id (e .cid))
+        → {v : ℕ} → v ≡ verdictOne id e u → single id slot e v t left ≡ takenAlone ks free id slot e
+    unfolding takenAlone
+    alone-is q x y = rw (y, x, or-same, q)
 
-  pub pair-is : {e f : Submission} → headOf m id (sqAt c id .ring) ≡ Pair e f → {t u left : ℕ} → takenTwo (c .free) ≡ Tags t u left
-      → {v : ℕ} → v ≡ verdictPair e f (used c id e) (used c id f) → {n : Controller} → n ≡ withTaken c id 2 left a
-      → _≡_ {A = Start}
-      (record {
-        answer = S.Pair id t u (sqAt c id .ring .head) v;
-        controller = withCommand (withCommand n t (command id (e .cid) v 0 (u + 1))) u (command id (f .cid) v (t + 1) 0);
-      })
-      (takePair c m id a)
-  unfolding takePair pairTaken
-  pair-is h q y z = let w = head-pair m id (sqAt c id .ring) h in rw (z, y, w .1, w .2, q)
+  module _ (e f : Submission) where
+    pub both-none : takenTwo free ≡ TooFew → tooFew ≡ takenBoth ks free id slot e f
+    unfolding takenBoth
+    both-none q = rw q
 
-  pub takes-one : {e : Submission} → headOf m id (sqAt c id .ring) ≡ One e → takeOne c m id a ≡ takeFrom c m (Queue id a)
-  takes-one h = sym (pick-no _ _ (head-one m id (sqAt c id .ring) h .0))
+    pub both-is : {t u left : ℕ} → takenTwo free ≡ Tags t u left
+        → {v : ℕ} → v ≡ verdictPair e f (inUse ks free id (e .cid)) (inUse ks free id (f .cid))
+        → double id slot e f v t u left ≡ takenBoth ks free id slot e f
+    unfolding takenBoth
+    both-is q y = rw (y, q)
 
-  pub takes-pair : {e f : Submission} → headOf m id (sqAt c id .ring) ≡ Pair e f → takePair c m id a ≡ takeFrom c m (Queue id a)
-  takes-pair h = sym (pick-yes _ _ (head-pair m id (sqAt c id .ring) h .0))
+  pub bounded : free < 2 ^ 64 → (h : Head) {k : Taken} → k ≡ takenOf ks free id slot h → Bounded k
+  unfolding takenAlone takenBoth takenOf
+  bounded l h q = rw q (of h)
+    where
+      of-one : {f : ℕ → ℕ → Taken} → ((t left : ℕ) → t < 64 → Bounded (f t left)) → (x : TakenOne) → takenOne free ≡ x
+          → Bounded (ofOne f x)
+      of-one g NoneFree q = record { few = omega arith; first = omega arith; second = omega arith }
+      of-one g (Tag t left) q = g t left (one-taken free l q .low)
+
+      of-two : {f : ℕ → ℕ → ℕ → Taken} → ((t u left : ℕ) → t < 64 → u < 64 → Bounded (f t u left)) → (x : TakenTwo) → takenTwo free ≡ x
+          → Bounded (ofTwo f x)
+      of-two g TooFew q = record { few = omega arith; first = omega arith; second = omega arith }
+      of-two g (Tags t u left) q = let w = two-taken free l q in g t u left (w .first .low) (w .second .low)
+
+      of : (h : Head) → Bounded (takenOf ks free id slot h)
+      of (One e) = of-one (λ t left b. record { few = omega arith; first = b; second = b }) (takenOne free) refl
+      of (Pair e f) = of-two (λ t u left b d. record { few = omega arith; first = b; second = d }) (takenTwo free) refl
+
+-- ---- the start that takes it
+
+-- the answer and the controller, with queue id as it is left and the commands stored
+abbrev storing : Controller → ℕ → Arbiter → Taken → SubmissionQueue → Start
+storing c id a k q =
+    record {
+      answer = k .answer;
+      controller =
+          record {
+            sqs = set (c .sqs) id q;
+            cqs = c .cqs;
+            commands = set (set (c .commands) (k .first) (k .one)) (k .second) (k .other);
+            free = k .left;
+            arbiter = a;
+          };
+    }
+
+abbrev startOf : Controller → ℕ → Arbiter → Taken → Start
+startOf c id a k = pick (eqb (k .count) 0) (refusedStart c 13) (storing c id a k (passed (sqAt c id) (k .count)))
+
+module _ (c : Controller) (id : ℕ) (a : Arbiter) where
+  abbrev ring : Ring
+  ring = sqAt c id .ring
+
+  start-one : (e : Submission) (v : ℕ) (x : TakenOne)
+      → startOf c id a (ofOne (single id (ring .head) e v) x) ≡ withOne c (oneTaken c id a e v) x
+  unfolding oneTaken
+  start-one e v NoneFree = refl
+  start-one e v (Tag t left) = rw set-set
+
+  start-pair : (e f : Submission) (v : ℕ) (x : TakenTwo)
+      → startOf c id a (ofTwo (double id (ring .head) e f v) x) ≡ withTwo c (pairTaken c id a e f v) x
+  unfolding pairTaken
+  start-pair e f v TooFew = refl
+  start-pair e f v (Tags t u left) = refl
+
+  module _ (m : List ℕ) where
+    start-head : (h : Head) → headOf m id ring ≡ h
+        → startOf c id a (takenOf (c .commands) (c .free) id (ring .head) h) ≡ takeFrom c m (Queue id a)
+    unfolding takenAlone takenBoth takenOf takeOne takePair
+    start-head (One e) p = let w = head-one m id ring p in rw (w .0, ← w .1) (start-one e _ (takenOne (c .free)))
+    start-head (Pair e f) p = let w = head-pair m id ring p in rw (w .0, ← w .1, ← w .2) (start-pair e f _ (takenTwo (c .free)))
+
+    module _ {h : Head} (p : h ≡ headOf m id ring) {k : Taken} (q : k ≡ takenOf (c .commands) (c .free) id (ring .head) h) where
+      pub start-too-few : k .count ≡ 0 → refusedStart c 13 ≡ takeFrom c m (Queue id a)
+      start-too-few z = sym (pick-yes _ _ (eq-eqb (k .count) 0 z)) ∙ ap (startOf c id a) q ∙ start-head h (sym p)
+
+      pub start-taken : (k .count ≡ 0 → ⊥) → {s : SubmissionQueue} → s ≡ passed (sqAt c id) (k .count)
+          → storing c id a k s ≡ takeFrom c m (Queue id a)
+      start-taken n w = ap (storing c id a k) w ∙ sym (pick-no _ _ (ne-eqb (k .count) 0 n)) ∙ ap (startOf c id a) q ∙ start-head h (sym p)
 
 -- ---- the start
 
@@ -94,8 +168,8 @@ module _ (c : Controller) (m : List ℕ) where
 
 -- the queue chosen exists, and its ring is sound and lies in the memory
 pub ready : (c : Controller) (n : ℕ) → Valid c → outside c n ≡ false → {id : ℕ} {a : Arbiter} → choice (c .arbiter) (candidates c) ≡ Queue id a
-    → Known c id × Inside n (sqAt c id .ring)
+    → (id < 16) × Inside n (sqAt c id .ring)
 ready c n v o {id} e =
     let k = chosen c e in
     let h = candidate-here (sqAt c id) (k .1) in
-    (record { low = k .0; ok = v .sq-ok id h }, record { ok = v .sq-ok id h; within = sq-inside c n o id (k .0) h })
+    (k .0, record { ok = v .sq-ok id h; within = sq-inside c n o id (k .0) h })

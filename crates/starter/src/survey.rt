@@ -37,15 +37,21 @@ fn with_queue(s: Survey, q: SubmissionQueue, i: usize, n: u64) -> Survey
     ensures { λ r. ⌜ ((qs : List SubmissionQueue) → s ≡ surveyed qs n i → q ≡ getD qs i noSq → r ≡ surveyed qs n (i + 1)) ⌝ }
 {
     let c = s.candidates;
-    let waits = is_candidate(q);
+    let outside = s.outside | ring_outside(q.ring, 64, n);
+    if !is_candidate(q) {
+        return Survey {
+            outside: outside,
+            candidates: c,
+        };
+    }
     Survey {
-        outside: s.outside | ring_outside(q.ring, 64, n),
+        outside: outside,
         candidates: Candidates {
-            all: with_bit(c.all, i, waits),
-            urgent: with_bit(c.urgent, i, waits & (q.class == 0)),
-            high: with_bit(c.high, i, waits & (q.class == 1)),
-            medium: with_bit(c.medium, i, waits & (q.class == 2)),
-            low: with_bit(c.low, i, waits & (q.class == 3)),
+            all: with_bit(c.all, i, true),
+            urgent: with_bit(c.urgent, i, q.class == 0),
+            high: with_bit(c.high, i, q.class == 1),
+            medium: with_bit(c.medium, i, q.class == 2),
+            low: with_bit(c.low, i, q.class == 3),
         },
     }
 }

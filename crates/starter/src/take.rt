@@ -1,37 +1,55 @@
 // Taking a command, or a pair, from the queue that was chosen.
 ghost use mathlib.Core.Path.{_≡_};
-ghost use mathlib.Core.List.{List};
-ghost use Prim.Native.Nat.{ℕ, _≤_};
-ghost use Rattle.controller.specs.State.{sqAt};
-ghost use Rattle.controller.specs.Starting.{passed, refusedStart, takeOne, takePair, takeFrom};
+ghost use Prim.Native.Nat.{_≤_};
+ghost use Rattle.controller.specs.Starting.{passed};
 ghost use Rattle.controller.specs.Valid.{RingOk};
-ghost use Rattle.starter.specs.Taking.{Known, withTaken, headOf};
+ghost use Rattle.starter.specs.Taking.{tooFew, takenAlone, takenBoth, takenOf};
 use crate::head::Head;
 use crate::verdict::in_use;
 use crate::verdict::verdict_one;
 use crate::verdict::verdict_pair;
-use arbiter::Arbiter;
-use arbiter::Chosen;
 use bits::TakenOne;
 use bits::TakenTwo;
 use controller::Command;
-use controller::Controller;
-use controller::Start;
 use controller::Started;
 use controller::SubmissionQueue;
 use entry::submission::Submission;
 
-pub fn refused(c: Controller, number: u64) -> Start
-    ensures { λ r. ⌜ r ≡ refusedStart c number ⌝ }
+// How many commands are taken, 0 where too few tags are free; their tags and what to store at them, for one command twice the same;
+// the tags that are left; and the answer.
+pub struct Taken {
+    pub count: u16,
+    pub first: usize,
+    pub second: usize,
+    pub one: Command,
+    pub other: Command,
+    pub left: u64,
+    pub answer: Started,
+}
+
+fn too_few() -> Taken
+    ensures { λ r. ⌜ r ≡ tooFew ⌝ }
 {
-    Start {
-        answer: Started::Refused(number),
-        controller: c,
+    let none = Command {
+        sq: 0,
+        cid: 0,
+        verdict: 0,
+        first: 0,
+        second: 0,
+    };
+    Taken {
+        count: 0,
+        first: 0,
+        second: 0,
+        one: none,
+        other: none,
+        left: 0,
+        answer: Started::Refused(13),
     }
 }
 
 // The queue with its head moved past n commands.
-fn with_passed(q: SubmissionQueue, n: u16) -> SubmissionQueue
+pub fn with_passed(q: SubmissionQueue, n: u16) -> SubmissionQueue
     requires { ⌜ RingOk (q .ring) × (n ≤ 2) ⌝ }
     ensures { λ r. ⌜ r ≡ passed q n ⌝ }
 {
@@ -42,99 +60,89 @@ fn with_passed(q: SubmissionQueue, n: u16) -> SubmissionQueue
     next
 }
 
-// The controller with n commands gone from queue id, and the free tags and the arbiter that are left.
-fn with_taken(c: Controller, id: u8, n: u16, left: u64, a: Arbiter) -> Controller
-    requires { ⌜ Known c id × (n ≤ 2) ⌝ }
-    ensures { λ r. ⌜ r ≡ withTaken c id n left a ⌝ }
+// The entry e in a slot of queue id is taken with the lowest free tag.
+fn take_one(commands: [Command; 64], free: u64, id: u8, slot: u16, e: Submission) -> Taken
+    ensures { λ r. ⌜ r ≡ takenAlone commands free id slot e ⌝ }
 {
-    let q = c.sqs[id as usize];
-    let mut next = c;
-    next.sqs[id as usize] = with_passed(q, n);
-    next.free = left;
-    next.arbiter = a;
-    next
-}
-
-// The entry e at the head of queue id is taken with the lowest free tag.
-fn take_one(c: Controller, id: u8, a: Arbiter, e: Submission) -> Start
-    requires { ⌜ Known c id ⌝ }
-    ensures { λ r. ⌜ ((m : List ℕ) → headOf m id (sqAt c id .ring) ≡ Head.One e → r ≡ takeOne c m id a) ⌝ }
-{
-    let free = c.free;
     let TakenOne::Tag(tag, left) = bits::take_one(free) else {
-        return refused(c, 13);
+        return too_few();
     };
-    let t = tag as u8;
-    let commands = c.commands;
     let verdict = verdict_one(id, e, in_use(commands, free, id, e.cid, e.cid));
-    let q = c.sqs[id as usize];
-    let mut next = with_taken(c, id, 1, left, a);
-    next.commands[t as usize] = Command {
+    let k = Command {
         sq: id,
         cid: e.cid,
         verdict: verdict,
         first: 0,
         second: 0,
     };
-    Start {
+    Taken {
+        count: 1,
+        first: tag as usize,
+        second: tag as usize,
+        one: k,
+        other: k,
+        left: left,
         answer: Started::One {
             sq: id,
-            tag: t,
-            slot: q.ring.head,
+            tag: tag as u8,
+            slot: slot,
             verdict: verdict,
         },
-        controller: next,
     }
 }
 
-// The pair of entries e and f at the head of queue id is taken with the two lowest free tags, each half linked to the other.
-fn take_pair(c: Controller, id: u8, a: Arbiter, e: Submission, f: Submission) -> Start
-    requires { ⌜ Known c id ⌝ }
-    ensures { λ r. ⌜ ((m : List ℕ) → headOf m id (sqAt c id .ring) ≡ Head.Pair e f → r ≡ takePair c m id a) ⌝ }
+// The pair of entries e and f, the first in a slot of queue id, is taken with the two lowest free tags, each half linked to the other.
+fn take_pair(
+    commands: [Command; 64],
+    free: u64,
+    id: u8,
+    slot: u16,
+    e: Submission,
+    f: Submission,
+) -> Taken
+    ensures { λ r. ⌜ r ≡ takenBoth commands free id slot e f ⌝ }
 {
-    let free = c.free;
     let TakenTwo::Tags(first, second, left) = bits::take_two(free) else {
-        return refused(c, 13);
+        return too_few();
     };
     let t = first as u8;
     let u = second as u8;
-    let commands = c.commands;
     let verdict = verdict_pair(e, f, in_use(commands, free, id, e.cid, f.cid));
-    let q = c.sqs[id as usize];
-    let mut next = with_taken(c, id, 2, left, a);
-    next.commands[t as usize] = Command {
-        sq: id,
-        cid: e.cid,
-        verdict: verdict,
-        first: 0,
-        second: u + 1,
-    };
-    next.commands[u as usize] = Command {
-        sq: id,
-        cid: f.cid,
-        verdict: verdict,
-        first: t + 1,
-        second: 0,
-    };
-    Start {
+    Taken {
+        count: 2,
+        first: first as usize,
+        second: second as usize,
+        one: Command {
+            sq: id,
+            cid: e.cid,
+            verdict: verdict,
+            first: 0,
+            second: u + 1,
+        },
+        other: Command {
+            sq: id,
+            cid: f.cid,
+            verdict: verdict,
+            first: t + 1,
+            second: 0,
+        },
+        left: left,
         answer: Started::Pair {
             sq: id,
             first: t,
             second: u,
-            slot: q.ring.head,
+            slot: slot,
             verdict: verdict,
         },
-        controller: next,
     }
 }
 
-// What stands at the head of queue id is taken.
-pub fn take(c: Controller, id: u8, a: Arbiter, head: Head) -> Start
-    requires { ⌜ Known c id ⌝ }
-    ensures { λ r. ⌜ ((m : List ℕ) → headOf m id (sqAt c id .ring) ≡ head → r ≡ takeFrom c m (Chosen.Queue id a)) ⌝ }
+// What stands at the head of queue id, in a slot of its ring, is taken.
+pub fn take(commands: [Command; 64], free: u64, id: u8, slot: u16, head: Head) -> Taken
+    ensures { λ r. ⌜ r ≡ takenOf commands free id slot head ⌝ }
 {
     match head {
-        Head::One(e) => take_one(c, id, a, e),
-        Head::Pair(e, f) => take_pair(c, id, a, e, f),
+        Head::One(e) => take_one(commands, free, id, slot, e),
+        Head::Pair(e, f) => take_pair(commands, free, id, slot, e, f),
     }
 }

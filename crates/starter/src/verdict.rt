@@ -5,24 +5,24 @@ ghost use Rattle.controller.specs.Verdict.{inUse, verdictOne, verdictPair};
 use controller::Command;
 use controller::Controller;
 use entry::submission::Submission;
-use queues::is_outstanding;
 
 // The opcodes of a pair.
 const COMPARE: u8 = 5;
 
 const WRITE: u8 = 1;
 
-// Whether one of two CIDs is in use by an outstanding command of the queue.
+// Whether one of two CIDs is in use by an outstanding command of the queue. Only the tags that are not free are looked at.
 pub fn in_use(ks: [Command; 64], free: u64, sq: u8, a: u16, b: u16) -> bool
     ensures { λ r. ⌜ r ≡ inUse ks free sq a || inUse ks free sq b ⌝ }
 {
-    let mut t: usize = 0;
-    while t < 64 {
-        let k = ks[t];
-        if is_outstanding(free, t as u64) & ((k.sq == sq) & ((k.cid == a) | (k.cid == b))) {
+    let mut left = u64::MAX - free;
+    while left != 0 {
+        let t = u64::trailing_zeros(left);
+        let k = ks[t as usize];
+        if (k.sq == sq) & ((k.cid == a) | (k.cid == b)) {
             return true;
         }
-        t += 1;
+        left = left - (1u64 << t);
     }
     false
 }

@@ -1,4 +1,5 @@
 -- `start` meets its contract. Assumes nothing.
+use Prim.Native.Nat.{_<_}
 use mathlib.Core.Bool.{false, _||_}
 use mathlib.Core.Path.{_≡_, sym, ap, _∙_}
 use native.Mathlib.Omega.{arith}
@@ -10,8 +11,8 @@ use Rattle.controller.specs.Rings.{outside}
 use Rattle.controller.specs.Starting.{candidates}
 use Rattle.controller.specs.Calls.{ofStart}
 use Rattle.controller.proofs.Validity.{valid}
-use Rattle.starter.specs.Taking.{Known, Inside}
-use Rattle.starter.proofs.Takings.{outside-found, candidates-found, start-outside, start-chosen, ready}
+use Rattle.starter.specs.Taking.{Inside}
+use Rattle.starter.proofs.Takings.{Bounded, bounded, outside-found, candidates-found, start-outside, start-chosen, start-too-few, start-taken, ready}
 use Rattle.starter.proofs.start.Statement.{statement}
 use Rattle.starter.proofs.start.Tie as tie
 
@@ -43,33 +44,68 @@ returns-2 c =
     let h = c .before .before .before in
     ap (ofStart _) (c .refused2 .ensures ∙ start-chosen _ _ (inside h) (choice-is h ∙ c .before .enum-told .given .1))
 
--- the queue named is known, and its ring lies in the memory
+-- the queue named exists, and its ring is sound and lies in the memory
 known : (c : tie.After-known-told)
     → let s = c .before .before .before .before .before .before .before .before .before .before .before .before in
-    Known (s .args .c) (c .before .id .given .0 .0) × Inside (length (s .args .memory .now)) (sqAt (s .args .c) (c .before .id .given .0 .0) .ring)
+    (c .before .id .given .0 .0 < 16) × Inside (length (s .args .memory .now)) (sqAt (s .args .c) (c .before .id .given .0 .0) .ring)
 known c =
     let h = c .before .before .before in
     let s = h .before .before .before .before .before .before .before .before .before in
     ready _ _ (valid (s .pre)) (inside h) (choice-is h ∙ c .before .id .given .1)
 
 array-copy-out-q : tie.Need-array-copy-out-q
-array-copy-out-q c = known c .0 .low
+array-copy-out-q c = known c .0
 
 cast-sq : tie.Need-cast-sq
-cast-sq c = omega (arith, known (c .before) .0 .low)
+cast-sq c = omega (arith, known (c .before) .0)
 
 head-of-requires : tie.Need-head-of-requires
-head-of-requires c κs = known (c .before) .1
+head-of-requires c κs = known (c .before .before) .1
 
-take-requires : tie.Need-take-requires
-take-requires c κs = known (c .before .before) .0
+-- how much is taken, and with which tags
+bounds : (c : tie.After-take) → Bounded (c .take .result)
+bounds c =
+    let s = c .before .before .before .before .before .before .before .before .before .before .before .before .before .before .before .before in
+    bounded _ _ _ _ (valid (s .pre) .free-64) _ (c .take .ensures)
 
 returns-3 : tie.Need-returns-3
 returns-3 c =
-    let k = c .before .before .before in
+    let t = c .before .before .before in
+    let k = t .before .before .before .before in
     let h = k .before .before .before in
+    let s = h .before .before .before .before .before .before .before .before .before in
     ap (ofStart _)
-    (c .take .ensures _ (sym (c .before .head-of .ensures))
+    (c .refused3 .ensures
+    ∙ start-too-few (s .args .c) _ _ _ (t .before .head-of .ensures) (t .take .ensures) (c .before .if2 .taken)
+    ∙ start-chosen _ _ (inside h) (choice-is h ∙ k .before .id .given .1))
+
+with-passed-requires : tie.Need-with-passed-requires
+with-passed-requires c κs = let t = c .before .before in (known (t .before .before .before .before) .1 .ok, bounds t .few)
+
+array-set-from-sqs : tie.Need-array-set-from-sqs
+array-set-from-sqs c = known (c .before .before .before .before .before .before .before) .0
+
+mul-commands : tie.Need-mul-commands
+mul-commands c = omega (arith, bounds (c .before .before .before .before) .first)
+
+array-set-from-commands : tie.Need-array-set-from-commands
+array-set-from-commands c = bounds (c .before .before .before .before) .first
+
+mul-commands-2 : tie.Need-mul-commands-2
+mul-commands-2 c = omega (arith, bounds (c .before .before .before .before .before) .second)
+
+array-set-from-commands-2 : tie.Need-array-set-from-commands-2
+array-set-from-commands-2 c = bounds (c .before .before .before .before .before) .second
+
+returns-4 : tie.Need-returns-4
+returns-4 c =
+    let p = c .before .before in
+    let t = p .before .before .before in
+    let k = t .before .before .before .before in
+    let h = k .before .before .before in
+    let s = h .before .before .before .before .before .before .before .before .before in
+    ap (ofStart _)
+    (start-taken (s .args .c) _ _ _ (t .before .head-of .ensures) (t .take .ensures) (p .before .if2 .left) (p .with-passed .ensures)
     ∙ start-chosen _ _ (inside h) (choice-is h ∙ k .before .id .given .1))
 
 pub start-spec : {M : Type 1} → statement M
@@ -90,5 +126,14 @@ start-spec =
     array-copy-out-q
     cast-sq
     head-of-requires
-    take-requires
-    returns-3)
+    (λ c κs. search needs)
+    (λ c κs. search needs)
+    returns-3
+    with-passed-requires
+    (λ c. search needs)
+    array-set-from-sqs
+    mul-commands
+    array-set-from-commands
+    mul-commands-2
+    array-set-from-commands-2
+    returns-4)

@@ -9,14 +9,11 @@ use Rattle.engine.proofs.doorbell.head_write.Statement.{statement}
 use Rattle.engine.proofs.doorbell.head_write.Tie as tie
 
 -- past the test, the queue exists, and the value is valid
-known : (c : tie.Else1) → (let a = c .before .before .before .args in Read (a .c) (a .id) (a .value))
-known c = read _ _ _ (sym (c .before .head-refusal .ensures _ refl) ∙ c .if1 .left)
+known : (c : tie.Then1) → (let a = c .before .before .before .before .before .before .args in Read (a .c) (a .id) (a .value))
+known c = read _ _ _ (sym (c .before .head-refusal .ensures _ refl) ∙ c .if1 .taken)
 
 head-refusal-requires : tie.Need-head-refusal-requires
-head-refusal-requires c κs = valid (c .before .pre) .cq-ok _
-
-returns : tie.Need-returns
-returns c = λ m. ap (ofChanged m) (head-refused _ _ _ (c .before .head-refusal .ensures _ refl) (c .if1 .taken))
+head-refusal-requires c κs = valid (c .before .before .before .before .pre) .cq-ok _
 
 mul-with-head : tie.Need-mul-with-head
 mul-with-head c = omega (arith, known c .id-low)
@@ -26,30 +23,33 @@ array-copy-out-with-head c = omega (arith, known c .id-low)
 
 with-head-requires : tie.Need-with-head-requires
 with-head-requires c κs =
-    let e = c .before in
-    let k = known e in
-    head-low _ (valid (e .before .before .before .pre) .cq-ok _ (k .here)) _ (k .valid)
+    let b = c .before in
+    let k = known b in
+    head-low _ (valid (b .before .before .before .before .before .before .pre) .cq-ok _ (k .here)) _ (k .valid)
 
-mul-t15 : tie.Need-mul-t15
-mul-t15 c = omega (arith, known (c .before .before) .id-low)
+mul-cqs : tie.Need-mul-cqs
+mul-cqs c = omega (arith, known (c .before .before) .id-low)
 
-element-set-from-next : tie.Need-element-set-from-next
-element-set-from-next c = omega (arith, known (c .before .before) .id-low)
+array-set-from-cqs : tie.Need-array-set-from-cqs
+array-set-from-cqs c = omega (arith, known (c .before .before) .id-low)
+
+returns : tie.Need-returns
+returns c =
+    let b = c .before .before in
+    λ m. rw (c .with-head .ensures) (ap (ofChanged m) (head-moved _ _ _ (b .before .head-refusal .ensures _ refl) (b .if1 .taken)))
 
 returns-2 : tie.Need-returns-2
-returns-2 c =
-    let e = c .before .before in
-    λ m. rw (c .with-head .ensures) (ap (ofChanged m) (head-moved _ _ _ (e .before .head-refusal .ensures _ refl) (e .if1 .left)))
+returns-2 c = λ m. ap (ofChanged m) (head-refused _ _ _ (c .before .head-refusal .ensures _ refl) (c .if1 .left))
 
 pub head-write-spec : {M : Type 1} → statement M
 head-write-spec =
     tie.close
     (tie.spec
     head-refusal-requires
-    returns
     mul-with-head
     array-copy-out-with-head
     with-head-requires
-    mul-t15
-    element-set-from-next
+    mul-cqs
+    array-set-from-cqs
+    returns
     returns-2)

@@ -13,9 +13,10 @@ returns c =
     let w = c .before .before in
     let s = w .before .before .before .before .before .before .before in
     let m = s .args .memory .now in
-    let p = s .args .p in
-    let o = p .queue .ring .base + 16 * p .queue .ring .tail in
-    let e = completion (s .args .result) (p .sqhd) (p .command .sq) (p .command .cid) (s .args .status) in
+    let q = s .args .q in
+    let k = s .args .k in
+    let o = q .ring .base + 16 * q .ring .tail in
+    let e = completion (s .args .result) (s .args .sqhd) (k .sq) (k .cid) (s .args .status) in
     let room : o + 16 ≤ length m = omega (arith, s .pre) in
     written-put m o e _ room (s .pre .2) (w .write .ensures .1)
 

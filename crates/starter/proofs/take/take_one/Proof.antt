@@ -1,32 +1,25 @@
--- `take_one` meets its contract: the lowest free tag, or 13. Assumes nothing.
-use Prim.Native.Nat.{_<_}
+-- `take_one` meets its contract: the lowest free tag, or too few. Assumes nothing.
 use mathlib.Core.Path.{sym, _∙_}
 use native.Mathlib.Omega.{arith}
 use borrow.Author.Needs.{needs}
 use Rattle.bits.proofs.Tags.{one-taken}
-use Rattle.starter.proofs.Takings.{one-none, one-is}
+use Rattle.starter.proofs.Takings.{alone-none, alone-is}
 use Rattle.starter.proofs.take.take_one.Statement.{statement}
 use Rattle.starter.proofs.take.take_one.Tie as tie
 
 returns : tie.Need-returns
-returns c m h =
-    c .refused .ensures ∙ one-none _ m _ _ (sym (c .before .before .before .take-one .ensures) ∙ c .before .enum-told .given .1)
+returns c =
+    c .too-few .ensures ∙ alone-none _ _ _ _ _ (sym (c .before .before .before .take-one .ensures) ∙ c .before .enum-told .given .1)
 
-low : (c : tie.After-tag) → c .tag .given .0 .0 < 64
-low c = one-taken _ (search needs) (sym (c .before .before .take-one .ensures) ∙ c .tag .given .1) .low
-
-cast-t : tie.Need-cast-t
-cast-t c = omega (arith, low (c .before))
-
-element-set-from-next : tie.Need-element-set-from-next
-element-set-from-next c = low (c .before .before .before .before .before .before)
+cast-t14 : tie.Need-cast-t14
+cast-t14 c =
+    let t = c .before .before .before in
+    omega (arith, one-taken _ (search needs) (sym (t .before .before .take-one .ensures) ∙ t .tag .given .1) .low)
 
 returns-2 : tie.Need-returns-2
-returns-2 c m h =
-    let v = c .before .before in
-    let t = v .before .before .before .before in
-    one-is _ m _ _ h (sym (t .before .before .take-one .ensures) ∙ t .tag .given .1) (v .before .in-use .ensures)
-    (v .verdict-one .ensures) (c .with-taken .ensures)
+returns-2 c =
+    let t = c .before .before .before in
+    alone-is _ _ _ _ _ (sym (t .before .before .take-one .ensures) ∙ t .tag .given .1) (c .before .in-use .ensures) (c .verdict-one .ensures)
 
 pub take-one-spec : {M : Type 1} → statement M
 take-one-spec =
@@ -37,13 +30,9 @@ take-one-spec =
     (λ c. search needs)
     (λ c κs. search needs)
     returns
-    cast-t
     (λ c κs. search needs)
     (λ c κs. search needs)
     (λ c. search needs)
     (λ c. search needs)
-    (λ c κs. search needs)
-    (λ c. search needs)
-    (λ c. search needs)
-    element-set-from-next
+    cast-t14
     returns-2)
