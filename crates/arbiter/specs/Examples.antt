@@ -3,6 +3,7 @@ use Prim.Native.Nat.{ℕ, zero, suc, _+_, _^_}
 use mathlib.Core.Bool.{true, false}
 use mathlib.Core.List.{List, [], _∷_, _++_}
 use mathlib.Core.Path.{_≡_, refl}
+use lib.ListN.{drop}
 use Rattle.bits.specs.Bits.{isSet, first, someBelow}
 use Rattle.arbiter.specs.declared.Arbiter.{Arbiter}
 use Rattle.arbiter.specs.declared.Candidates.{Candidates}
@@ -78,7 +79,10 @@ Examples =
     -- burst 7: a holder is served while it is a candidate; in a level, here of weight 3, while there is credit
     × (named (fresh false 7) (times 3 (urgents (0 ∷ 1 ∷ 2 ∷ [])) ++ times 2 (urgents (1 ∷ 2 ∷ []))) ≡ 0 ∷ 0 ∷ 0 ∷ 1 ∷ 1 ∷ [])
     × (named (fresh true 0x00000207) (times 6 (lows (1 ∷ 2 ∷ []))) ≡ 1 ∷ 1 ∷ 1 ∷ 2 ∷ 2 ∷ 2 ∷ [])
+    -- burst 7 is more than any power of two that bits 2:0 could give, and burst 6 is 64
+    × (drop 127 (named (fresh false 7) (times 129 (urgents (1 ∷ 2 ∷ [])))) ≡ 1 ∷ 1 ∷ [])
+    × (drop 63 (named (fresh false 6) (times 65 (urgents (1 ∷ 2 ∷ [])))) ≡ 1 ∷ 2 ∷ [])
 
 pub examples : Examples
 unfolding Examples named choice byWeight byLevel byGroup toppedUp someWaits someReady levelTurn ready someBelow turn nextAfter burstOf first isSet
-examples = (refl, refl, refl, refl, refl, refl, refl, refl, refl, refl)
+examples = (refl, refl, refl, refl, refl, refl, refl, refl, refl, refl, refl, refl)
