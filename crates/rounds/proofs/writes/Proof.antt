@@ -1,0 +1,31 @@
+-- `rounds::writes`: each tail write leaves a controller that calls lead to. Assumes nothing.
+use borrow.Author.Needs.{needs}
+use Prim.Native.Nat.{_≤_, _-_}
+use mathlib.Core.List.{[]}
+use Rattle.controller.specs.Calls.{Reachable, tailWrite}
+use Rattle.controller.proofs.Reaches.{by-call}
+use Rattle.rounds.proofs.writes.Statement.{statement}
+use Rattle.rounds.proofs.writes.Tie as tie
+
+abbrev Inv-loop : tie.InvT-loop
+Inv-loop run n c₀ digest₀ i₀ c digest i = Reachable c × (i ≤ n)
+
+abbrev μ-loop : tie.MeasureT-loop
+μ-loop run n c₀ digest₀ i₀ c digest i = n - i
+
+loop-again : tie.Need-loop-again Inv-loop μ-loop
+loop-again c = (by-call [] (tailWrite _ _) (c .before .before .before .before .loop .inv .0) (c .before .before .tail-write .ensures []), search needs)
+
+pub writes-spec : {M : Type 1} → statement M
+writes-spec =
+    tie.close
+    (tie.spec
+    Inv-loop
+    μ-loop
+    (λ c. search needs)
+    (λ c κs. search needs)
+    (λ c κs. search needs)
+    (λ c. search needs)
+    (λ c. search needs)
+    loop-again
+    (λ c. search needs))

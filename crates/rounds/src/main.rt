@@ -1,0 +1,398 @@
+// What bench/run times: batches of commands that go through a controller, beside a plain C program of the same loop. The plan
+// stands on one line of standard input, and a digest of all answers goes to standard output.
+ghost use Prim.Native.Nat.{_<_, _≤_};
+ghost use lib.ListN.{length};
+ghost use Rattle.controller.specs.Calls.{Reachable};
+use controller::Controller;
+use controller::Finished;
+use controller::Started;
+use engine::create::create_cq;
+use engine::create::create_sq;
+use engine::doorbell::head_write;
+use engine::doorbell::tail_write;
+use engine::finish::finish;
+use entry::submission::Submission;
+use libc::STDIN_FILENO;
+use libc::STDOUT_FILENO;
+use starter::start;
+use words::line::Word;
+use words::line::next_word;
+use words::number::Number;
+use words::number::value_of;
+
+// A page for each of the 16 submission and 16 completion rings.
+const MEMORY_BYTES: usize = 131072;
+
+const QUEUES: u64 = 16;
+
+const SIZE: u64 = 64;
+
+// The commands that a batch submits to each busy queue.
+const SUBMITTED: u64 = 62;
+
+// A burst of 4, and the weights 2, 4 and 8.
+const WORD: u32 = 0x07030102;
+
+// What the batches are made of.
+const DOORBELLS: u64 = 1;
+
+const PAIRS: u64 = 3;
+
+// `kind` is 0 for an empty loop, 1 for tail writes, 2 for commands and 3 for fused pairs; `busy` is the number of queues with
+// commands, and `outstanding` that of the commands which stay outstanding beside those of the batch.
+struct Plan {
+    kind: u64,
+    mechanism: u64,
+    busy: u64,
+    outstanding: u64,
+    batches: u64,
+}
+
+// The controller, the digest of its answers, the tail of each busy queue, the tail of its completion queue, and the tag that is
+// finished next.
+struct Run {
+    controller: Controller,
+    digest: u64,
+    tail: u64,
+    posted: u64,
+    tag: u64,
+}
+
+fn mixed(digest: u64, x: u64) -> u64 {
+    (digest % 4294967296 * 31 + x % 4294967296) % 4294967296
+}
+
+fn of_started(answer: Started) -> u64 {
+    match answer {
+        Started::One {
+            sq,
+            tag,
+            slot,
+            verdict,
+        } => 65536 * (verdict as u64) + 1024 * (slot as u64) + 16 * (tag as u64) + (sq as u64),
+        Started::Pair {
+            sq,
+            first,
+            second,
+            slot,
+            verdict,
+        } => {
+            65536 * (verdict as u64)
+                + 1024 * (slot as u64)
+                + 16 * (first as u64)
+                + (second as u64)
+                + (sq as u64)
+        }
+        Started::Refused(number) => number,
+    }
+}
+
+fn of_finished(answer: Finished) -> u64 {
+    match answer {
+        Finished::Slot(slot) => slot as u64,
+        Finished::Refused(number) => number,
+    }
+}
+
+// The entry in a slot: a read, or in turn the two halves of a pair.
+fn entry_of(slot: u64, pairs: bool) -> Submission {
+    let mut opc: u8 = 2;
+    let mut fuse: u64 = 0;
+    if pairs {
+        opc = if slot % 2 == 0 { 5 } else { 1 };
+        fuse = 1 + slot % 2;
+    }
+    Submission {
+        opc: opc,
+        fuse: fuse,
+        psdt: 0,
+        cid: (slot % 65536) as u16,
+        nsid: 1,
+        mptr: 0,
+        prp1: 4096,
+        prp2: 0,
+        slba: slot / 2,
+        nlb: 7,
+        cdw12: 0,
+        cdw13: 0,
+        cdw14: 0,
+        cdw15: 0,
+    }
+}
+
+fn fill(memory: &mut [u8], id: u64, pairs: bool)
+    requires { ⌜ (id < 16) × (131072 ≤ length (now memory)) ⌝ }
+{
+    let mut slot: u64 = 0;
+    while slot < SIZE {
+        let at = (4096 * id + 64 * slot) as usize;
+        entry::submission::write(&mut memory[at..], entry_of(slot, pairs));
+        slot += 1;
+    }
+}
+
+fn with_queues(memory: &mut [u8], mechanism: u64, pairs: bool) -> Controller
+    requires { ⌜ 131072 ≤ length (now memory) ⌝ }
+    ensures { λ r. ⌜ Reachable r ⌝ }
+{
+    let fresh = Controller::new(mechanism, WORD);
+    let mut c = fresh.controller;
+    let mut id: u64 = 0;
+    while id < QUEUES {
+        fill(memory, id, pairs);
+        let cq = create_cq(c, memory, id, SIZE, 4096 * (QUEUES + id));
+        c = cq.controller;
+        let sq = create_sq(c, memory, id, SIZE, 4096 * id, id, id % 4);
+        c = sq.controller;
+        id += 1;
+    }
+    c
+}
+
+// The first of the busy queues: queue 0 only where more than one is busy.
+fn first_of(busy: u64) -> u64
+    ensures { λ r. ⌜ r ≤ 1 ⌝ }
+{
+    if busy == 1 { 1 } else { 0 }
+}
+
+// `n` tail writes of the value that each queue holds.
+fn writes(run: Run, n: u64) -> Run
+    requires { ⌜ Reachable (run .controller) ⌝ }
+    ensures { λ r. ⌜ Reachable (r .controller) ⌝ }
+{
+    let mut c = run.controller;
+    let mut digest = run.digest;
+    let mut i: u64 = 0;
+    while i < n {
+        let r = tail_write(c, i % QUEUES, 0);
+        c = r.controller;
+        digest = mixed(digest, r.refusal);
+        i += 1;
+    }
+    Run {
+        controller: c,
+        digest: digest,
+        tail: run.tail,
+        posted: run.posted,
+        tag: run.tag,
+    }
+}
+
+// `n` commands more are submitted to each busy queue.
+fn submit(run: Run, busy: u64, n: u64) -> Run
+    requires { ⌜ Reachable (run .controller) × (busy ≤ 16) ⌝ }
+    ensures { λ r. ⌜ Reachable (r .controller) ⌝ }
+{
+    let tail = (run.tail % SIZE + n % SIZE) % SIZE;
+    let first = first_of(busy);
+    let mut c = run.controller;
+    let mut digest = run.digest;
+    let mut i: u64 = 0;
+    while i < busy {
+        let r = tail_write(c, first + i, tail);
+        c = r.controller;
+        digest = mixed(digest, r.refusal);
+        i += 1;
+    }
+    Run {
+        controller: c,
+        digest: digest,
+        tail: tail,
+        posted: run.posted,
+        tag: run.tag,
+    }
+}
+
+// `n` completions are released from the completion queue of each busy queue.
+fn release(run: Run, busy: u64, n: u64) -> Run
+    requires { ⌜ Reachable (run .controller) × (busy ≤ 16) ⌝ }
+    ensures { λ r. ⌜ Reachable (r .controller) ⌝ }
+{
+    let posted = (run.posted % SIZE + n % SIZE) % SIZE;
+    let first = first_of(busy);
+    let mut c = run.controller;
+    let mut digest = run.digest;
+    let mut i: u64 = 0;
+    while i < busy {
+        let r = head_write(c, first + i, posted);
+        c = r.controller;
+        digest = mixed(digest, r.refusal);
+        i += 1;
+    }
+    Run {
+        controller: c,
+        digest: digest,
+        tail: run.tail,
+        posted: posted,
+        tag: run.tag,
+    }
+}
+
+fn next_tag(tag: u64, last: u64) -> u64 {
+    if last <= tag { 0 } else { tag + 1 }
+}
+
+// `n` starts, each with so many finishes of the tags that have been outstanding longest.
+fn trips(run: Run, memory: &mut [u8], n: u64, finishes: u64, last_tag: u64) -> Run
+    requires { ⌜ Reachable (run .controller) × (finishes ≤ 2) ⌝ }
+    ensures { λ r. ⌜ Reachable (r .controller) ⌝ }
+{
+    let mut c = run.controller;
+    let mut digest = run.digest;
+    let mut tag = run.tag;
+    let mut i: u64 = 0;
+    while i < n {
+        let s = start(c, memory);
+        c = s.controller;
+        let started = s.answer;
+        digest = mixed(digest, of_started(started));
+        let mut k: u64 = 0;
+        while k < finishes {
+            let f = finish(c, memory, tag, 0, (i % 4294967296) as u32);
+            c = f.controller;
+            let finished = f.answer;
+            digest = mixed(digest, of_finished(finished));
+            tag = next_tag(tag, last_tag);
+            k += 1;
+        }
+        i += 1;
+    }
+    Run {
+        controller: c,
+        digest: digest,
+        tail: run.tail,
+        posted: run.posted,
+        tag: tag,
+    }
+}
+
+// The loop without calls.
+fn idle(mut run: Run, n: u64) -> Run
+    requires { ⌜ Reachable (run .controller) ⌝ }
+    ensures { λ r. ⌜ Reachable (r .controller) ⌝ }
+{
+    let mut digest = run.digest;
+    let mut i: u64 = 0;
+    while i < n {
+        digest = mixed(mixed(digest, i), i);
+        i += 1;
+    }
+    run.digest = digest;
+    run
+}
+
+// A batch of commands: submitted, started and finished, and its completions released.
+fn round(run: Run, memory: &mut [u8], busy: u64, starts: u64, finishes: u64, last_tag: u64) -> Run
+    requires { ⌜ Reachable (run .controller) × (busy ≤ 16) × (finishes ≤ 2) ⌝ }
+    ensures { λ r. ⌜ Reachable (r .controller) ⌝ }
+{
+    let submitted = submit(run, busy, SUBMITTED);
+    let done = trips(submitted, memory, starts, finishes, last_tag);
+    release(done, busy, SUBMITTED)
+}
+
+fn batch(run: Run, memory: &mut [u8; MEMORY_BYTES], p: Plan) -> Run
+    requires { ⌜ Reachable (run .controller) × (p .busy ≤ 16) × (p .outstanding ≤ 63) ⌝ }
+    ensures { λ r. ⌜ Reachable (r .controller) ⌝ }
+{
+    let n = SUBMITTED * p.busy;
+    if p.kind == 0 {
+        return idle(run, n);
+    }
+    if p.kind == DOORBELLS {
+        return writes(run, n);
+    }
+    if p.kind == PAIRS {
+        return round(run, memory, p.busy, n / 2, 2, p.outstanding + 1);
+    }
+    round(run, memory, p.busy, n, 1, p.outstanding)
+}
+
+// A controller with 16 queues of each kind, and the commands that stay outstanding.
+fn prepared(memory: &mut [u8; MEMORY_BYTES], p: Plan) -> Run
+    ensures { λ r. ⌜ Reachable (r .controller) ⌝ }
+{
+    let c = with_queues(memory, p.mechanism, p.kind == PAIRS);
+    let run = Run {
+        controller: c,
+        digest: 0,
+        tail: 0,
+        posted: 0,
+        tag: 0,
+    };
+    trips(submit(run, 1, p.outstanding), memory, p.outstanding, 0, 0)
+}
+
+// The digest of all answers.
+fn digest_of(p: Plan) -> u64
+    requires { ⌜ (p .busy ≤ 16) × (p .outstanding ≤ 63) ⌝ }
+{
+    let mut memory = [0u8; MEMORY_BYTES];
+    let mut run = prepared(&mut memory, p);
+    let mut i: u64 = 0;
+    while i < p.batches {
+        run = batch(run, &mut memory, p);
+        i += 1;
+    }
+    run.digest
+}
+
+// The number that a word of the line writes, and 0 for one above `most` or any other word.
+fn number(line: &[u8], word: Word, most: u64) -> u64
+    requires { ⌜ (word .start ≤ word .end) × (word .end ≤ length (now line)) ⌝ }
+    ensures { λ r. ⌜ r ≤ most ⌝ }
+{
+    let start = word.start;
+    let end = word.end;
+    let Number::Is(n) = value_of(&line[start..end]) else {
+        return 0;
+    };
+    if most < n {
+        return 0;
+    }
+    n
+}
+
+fn plan_of(line: &[u8]) -> Plan
+    ensures { λ r. ⌜ (r .busy ≤ 16) × (r .outstanding ≤ 63) ⌝ }
+{
+    let kind = next_word(line, 0);
+    let mechanism = next_word(line, kind.end);
+    let busy = next_word(line, mechanism.end);
+    let outstanding = next_word(line, busy.end);
+    let batches = next_word(line, outstanding.end);
+    Plan {
+        kind: number(line, kind, PAIRS),
+        mechanism: number(line, mechanism, 1),
+        busy: number(line, busy, QUEUES),
+        outstanding: number(line, outstanding, 63),
+        batches: number(line, batches, u64::MAX),
+    }
+}
+
+// How many of the first `n` bytes stand before an LF at their end.
+fn without_lf(input: &[u8], n: usize) -> usize
+    requires { ⌜ n ≤ length (now input) ⌝ }
+    ensures { λ r. ⌜ r ≤ n ⌝ }
+{
+    if n == 0 {
+        return 0;
+    }
+    if input[n - 1] == b'\n' {
+        return n - 1;
+    }
+    n
+}
+
+fn digest_for(input: &[u8]) -> u64 {
+    let n = input.len();
+    let end = without_lf(input, n);
+    digest_of(plan_of(&input[..end]))
+}
+
+fn main() {
+    let mut input = io::buffer();
+    let n = io::count(libc::read(STDIN_FILENO, &mut input), &input);
+    io::print_decimal(STDOUT_FILENO, digest_for(&input[..n]));
+}
