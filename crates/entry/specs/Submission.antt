@@ -49,6 +49,33 @@ writeRefusal n = firstMatch ((ltb n 64, 21) ∷ [])
 unfoldable pub written : List ℕ → Submission → List ℕ
 written b e = settle (writeRefusal (length b)) (λ n. b) (put b 0 (submissionBytes e))
 
--- the reader's answer
+-- document 01's number and values for each answer of the reader: 0 and the fields, or the refusal number and zeros
+abbrev pub noSubmission : Submission
+noSubmission =
+    record {
+      opc = 0;
+      fuse = 0;
+      psdt = 0;
+      cid = 0;
+      nsid = 0;
+      mptr = 0;
+      prp1 = 0;
+      prp2 = 0;
+      slba = 0;
+      nlb = 0;
+      cdw12 = 0;
+      cdw13 = 0;
+      cdw14 = 0;
+      cdw15 = 0;
+    }
+
+abbrev pub submissionAnswer : SubmissionRead → ℕ × Submission
+submissionAnswer (Entry e) = (0, e)
+submissionAnswer (Refused n) = (n, noSubmission)
+
+-- the reader's answer, in these and as it stands
+unfoldable pub submissionNumbers : List ℕ → ℕ × Submission
+submissionNumbers b = settle (firstMatch ((ltb (length b) 64, 21) ∷ [])) (λ n. (n, noSubmission)) (0, submissionAt b)
+
 unfoldable pub submissionRead : List ℕ → SubmissionRead
 submissionRead b = settle (firstMatch ((ltb (length b) 64, 21) ∷ [])) Refused (Entry (submissionAt b))

@@ -8,12 +8,12 @@ use Rattle.starter.proofs.head.read.Tie as tie
 returns : tie.Need-returns
 returns c =
     let s = c .before .before .before in
-    absurd (not-refused _ (s .before .before .pre) (sym (s .read .ensures) ∙ c .before .enum-told .given .1))
+    absurd (not-refused _ (s .before .before .pre) (sym (s .read .ensures .0) ∙ c .before .enum-told .given .1))
 
 returns-2 : tie.Need-returns-2
 returns-2 c =
     let s = c .before .before .before in
-    entry-read _ (s .before .before .pre) (sym (s .read .ensures) ∙ c .before .e .given .1)
+    entry-read _ (s .before .before .pre) (sym (s .read .ensures .0) ∙ c .before .e .given .1)
 
 pub read-spec : {M : Type 1} → statement M
 read-spec =
