@@ -13,7 +13,8 @@ use lib.ListN.{length, getD, length-append}
 use Rattle.rules.specs.Rules.{pick, settle, firstMatch}
 use Rattle.le.specs.Le.{leAt}
 use Rattle.prp.specs.Pages.{pageSize, pagesTouched, split, byteCounts}
-use Rattle.prp.specs.Walk.{Walk, refused, found, demand, after, inMemory, lastOfPage, readEntry, list, dataPages, beforeWalk, pageWalk}
+use Rattle.prp.specs.Walk.{Walk, refused, found, demand, after, inMemory, lastOfPage, readEntry, list, dataPages}
+use Rattle.prp.specs.Walk.{beforeWalk, pageWalk}
 use Rattle.prp.specs.Answer.{addressesOf, Found}
 use Rattle.prp.proofs.Touched.{by-offset}
 
@@ -25,7 +26,8 @@ total (x ∷ xs) = x + total xs
 split-total : (page room len n : ℕ) → len ≤ room + n * page → total (split page room len (suc n)) ≡ len
 unfolding split
 split-total page room len zero h = omega arith
-split-total page room len (suc n) h = omega (arith, suc-mul n page, split-total page page (len - min room len) n (omega (arith, suc-mul n page)))
+split-total page room len (suc n) h =
+    omega (arith, suc-mul n page, split-total page page (len - min room len) n (omega (arith, suc-mul n page)))
 
 split-within : (page room len n i : ℕ) → room ≤ page → getD (split page room len n) i 0 ≤ page
 unfolding split
@@ -49,7 +51,8 @@ module _ (page prp1 len : ℕ) (low : 4096 ≤ page) where
     counts-total =
         let n = (prp1 % page + len - 1) / page in
         let touched : pagesTouched page prp1 len ≡ suc n = omega (arith, by-offset page prp1 len low some) in
-        rw touched (split-total page (page - prp1 % page) len n (omega (arith, mod-lt prp1 pos, lt-div-mul-add {a = prp1 % page + len - 1} pos)))
+        let room : len ≤ page - prp1 % page + n * page = omega (arith, mod-lt prp1 pos, lt-div-mul-add {a = prp1 % page + len - 1} pos) in
+        rw touched (split-total page (page - prp1 % page) len n room)
 
     -- each byte lies on one of the pages touched, counted from the page of the first
     pub covered : (b : ℕ) → prp1 ≤ b → b < prp1 + len → (prp1 / page ≤ b / page) × (b / page < prp1 / page + pagesTouched page prp1 len)
@@ -91,10 +94,13 @@ module _ (page : ℕ) (m : List ℕ) where
   finds-read : (n a : ℕ) (next : ℕ → Walk) → ((e : ℕ) → Finds n (next e)) → Finds n (readEntry page m a next)
   unfolding readEntry
   finds-read n a next h =
-      finds-demand n (inMemory m a) _ _ (finds-demand n (eqb (leAt 8 m a % page) 0) _ _ (rw zero-add at (finds-after n [] 1 (next (leAt 8 m a)) (h (leAt 8 m a)))))
+      let e = leAt 8 m a in
+      finds-demand n (inMemory m a) _ _ (finds-demand n (eqb (e % page) 0) _ _ (rw zero-add at (finds-after n [] 1 (next e) (h e))))
 
   -- an entry that names a data page, before a list of n more
-  finds-entry : (n : ℕ) → ((a : ℕ) → Finds n (list page m n a)) → (a : ℕ) → Finds (suc n) (readEntry page m a (λ address. after (address ∷ []) 0 (list page m n (a + 8))))
+  finds-entry :
+      (n : ℕ) → ((a : ℕ) → Finds n (list page m n a)) → (a : ℕ) →
+      Finds (suc n) (readEntry page m a (λ address. after (address ∷ []) 0 (list page m n (a + 8))))
   finds-entry n h a = finds-read (suc n) a _ (λ address. rw one-add at (finds-after n (address ∷ []) 0 _ (h (a + 8))))
 
   finds-list : (n a : ℕ) → Finds n (list page m n a)
@@ -108,21 +114,27 @@ module _ (page : ℕ) (m : List ℕ) where
   unfolding dataPages Finds
   finds-pages prp1 prp2 n h =
       let back : 1 + (n - 1) ≡ n = omega arith in
+      let after-first = finds-after (n - 1) (prp1 ∷ []) 0 (list page m (n - 1) prp2) (finds-list (n - 1) prp2) in
       finds-pick n (eqb n 1) _ _ (λ e. sym (eqb-true n 1 e))
       (λ _. finds-pick n (eqb n 2) _ _ (λ e. finds-demand n (eqb (prp2 % page) 0) _ _ (sym (eqb-true n 2 e)))
-      (λ _. finds-demand n (eqb (prp2 % 8) 0) _ _ (rw back at (finds-after (n - 1) (prp1 ∷ []) 0 (list page m (n - 1) prp2) (finds-list (n - 1) prp2)))))
+      (λ _. finds-demand n (eqb (prp2 % 8) 0) _ _ (rw back at after-first)))
 
 finds-length : (n : ℕ) (w : Walk) → Found w → Finds n w → length (addressesOf w) ≡ n
 unfolding Found Finds addressesOf
 finds-length n (refused number) f h = absurd f
 finds-length n (found l reads) f h = h
 
-pub pages-length : (page : ℕ) (m : List ℕ) (prp1 prp2 n : ℕ) → 0 < n → Found (dataPages page m prp1 prp2 n) → length (addressesOf (dataPages page m prp1 prp2 n)) ≡ n
+pub pages-length :
+    (page : ℕ) (m : List ℕ) (prp1 prp2 n : ℕ) → 0 < n → Found (dataPages page m prp1 prp2 n) →
+    length (addressesOf (dataPages page m prp1 prp2 n)) ≡ n
 pages-length page m prp1 prp2 n h f = finds-length n (dataPages page m prp1 prp2 n) f (finds-pages page m prp1 prp2 n h)
 
 -- a walk that is not refused finds an address for each page touched
-pub walk-finds : (m : List ℕ) (prp1 prp2 len k addressRoom countRoom : ℕ) → Finds (pagesTouched (pageSize k) prp1 len) (pageWalk m prp1 prp2 len k addressRoom countRoom)
+pub walk-finds :
+    (m : List ℕ) (prp1 prp2 len k addressRoom countRoom : ℕ) →
+    Finds (pagesTouched (pageSize k) prp1 len) (pageWalk m prp1 prp2 len k addressRoom countRoom)
 unfolding pagesTouched pageWalk settle Finds
 walk-finds m prp1 prp2 len k addressRoom countRoom =
     let some : 0 < pagesTouched (pageSize k) prp1 len = omega arith in
-    finds-pick _ (eqb (firstMatch (beforeWalk prp1 len k addressRoom countRoom)) 0) _ _ (λ e. finds-pages (pageSize k) m prp1 prp2 _ some) (λ e. tt)
+    let test = eqb (firstMatch (beforeWalk prp1 len k addressRoom countRoom)) 0 in
+    finds-pick _ test _ _ (λ e. finds-pages (pageSize k) m prp1 prp2 _ some) (λ e. tt)

@@ -151,7 +151,8 @@ fn data_pages(memory: &[u8], prp2: u64, count: u64, page: u64) -> Walked
 fn store_list(memory: &[u8], start: u64, count: u64, page: u64, addresses: &mut [u8])
     requires { ⌜ (page ≤ 4) × ((0 < count) × ((count < mostPages) × ((start % 8 ≡ 0) × (8 * count + 8 ≤ length (now addresses))))) ⌝ }
     requires { ⌜ Found (list (pageSize page) (now memory) count start) ⌝ }
-    ensures { λ _. ⌜ now (addresses .exit) ≡ sets (now (addresses .entry)) 8 (numbers 8 (addressesOf (list (pageSize page) (now (memory .entry)) count start))) ⌝ }
+    ensures { λ _. ⌜ now (addresses .exit) ≡ sets (now (addresses .entry)) 8
+        (numbers 8 (addressesOf (list (pageSize page) (now (memory .entry)) count start))) ⌝ }
 {
     let mut at = start;
     let mut left = count;
@@ -178,7 +179,8 @@ fn store_list(memory: &[u8], start: u64, count: u64, page: u64, addresses: &mut 
 fn store_addresses(memory: &[u8], prp1: u64, prp2: u64, count: u64, page: u64, addresses: &mut [u8])
     requires { ⌜ (page ≤ 4) × ((0 < count) × ((count ≤ mostPages) × (8 * count ≤ length (now addresses)))) ⌝ }
     requires { ⌜ Found (dataPages (pageSize page) (now memory) prp1 prp2 count) ⌝ }
-    ensures { λ _. ⌜ now (addresses .exit) ≡ put (now (addresses .entry)) 0 (numbers 8 (addressesOf (dataPages (pageSize page) (now (memory .entry)) prp1 prp2 count))) ⌝ }
+    ensures { λ _. ⌜ now (addresses .exit) ≡ put (now (addresses .entry)) 0
+        (numbers 8 (addressesOf (dataPages (pageSize page) (now (memory .entry)) prp1 prp2 count))) ⌝ }
 {
     le::put64(addresses, 0, prp1);
     if count == 1 {
@@ -219,8 +221,11 @@ pub fn walk(
     addresses: &mut [u8],
     counts: &mut [u8],
 ) -> Walked
-    ensures { λ r. do ⌜ r ≡ answer (pageWalk (now (memory .entry)) prp1 prp2 length page (← ⟦addresses.len()⟧ .entry) (← ⟦counts.len()⟧ .entry)) ⌝ }
-    ensures { λ _. do ⌜ now (addresses .exit) ≡ put (now (addresses .entry)) 0 (numbers 8 (addressesOf (pageWalk (now (memory .entry)) prp1 prp2 length page (← ⟦addresses.len()⟧ .entry) (← ⟦counts.len()⟧ .entry)))) ⌝ }
+    ensures { λ r. do
+      ⌜ r ≡ answer (pageWalk (now (memory .entry)) prp1 prp2 length page (← ⟦addresses.len()⟧ .entry) (← ⟦counts.len()⟧ .entry)) ⌝ }
+    ensures { λ _. do
+      ⌜ now (addresses .exit) ≡ put (now (addresses .entry)) 0 (numbers 8 (addressesOf
+          (pageWalk (now (memory .entry)) prp1 prp2 length page (← ⟦addresses.len()⟧ .entry) (← ⟦counts.len()⟧ .entry)))) ⌝ }
     ensures { λ r. ⌜ now (counts .exit) ≡ put (now (counts .entry)) 0 (numbers 4 (byteCounts (pageSize page) prp1 length (pagesOf r))) ⌝ }
 {
     let refusal = refusal_before_walk(prp1, length, page, addresses.len(), counts.len());

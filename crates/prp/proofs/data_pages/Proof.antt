@@ -34,7 +34,8 @@ returns-5 : tie.Need-returns-5
 unfolding dataPages
 returns-5 c prp1 =
     let t = c .before in
-    c .list-pages .ensures ∙ rw (ne-eqb _ 1 (t .before .before .if1 .left), ne-eqb _ 2 (t .before .if2 .left), eq-eqb _ 0 (t .if4 .left)) (after-first prp1 _)
+    c .list-pages .ensures
+    ∙ rw (ne-eqb _ 1 (t .before .before .if1 .left), ne-eqb _ 2 (t .before .if2 .left), eq-eqb _ 0 (t .if4 .left)) (after-first prp1 _)
 
 pub data-pages-spec : {M : Type 1} → statement M
 data-pages-spec =

@@ -14,7 +14,8 @@ use Rattle.prp.proofs.in_memory.Tie as tie
 -- the test without a sum that could wrap
 by-difference : (a n : ℕ) → 8 ≤ n → leb a (n - 8) ≡ leb (a + 8) n
 by-difference a n h =
-    ⊎-elim (λ l. lt-leb a (n - 8) l ∙ sym (lt-leb (a + 8) n (omega arith))) (λ l. le-leb a (n - 8) l ∙ sym (le-leb (a + 8) n (omega arith))) (lt-or-ge (n - 8) a)
+    ⊎-elim (λ l. lt-leb a (n - 8) l ∙ sym (lt-leb (a + 8) n (omega arith)))
+    (λ l. le-leb a (n - 8) l ∙ sym (le-leb (a + 8) n (omega arith))) (lt-or-ge (n - 8) a)
 
 returns : tie.Need-returns
 unfolding inMemory

@@ -30,12 +30,18 @@ returns-3 c = simp (in-range (c .before .before), le-ltb _ _ (c .before .if3 .le
 buffers :
     (t : tie.After-pages-touched) →
     let a = t .before .before .before .before .before .args in
-    firstMatch (beforeWalk (a .prp1) (a .length) (a .page) (a .address-room) (a .count-room)) ≡ pick (ltb (a .address-room) (8 * t .pages-touched .result) || ltb (a .count-room) (4 * t .pages-touched .result)) 21 0
+    let n = t .pages-touched .result in
+    firstMatch (beforeWalk (a .prp1) (a .length) (a .page) (a .address-room) (a .count-room))
+    ≡ pick (ltb (a .address-room) (8 * n) || ltb (a .count-room) (4 * n)) 21 0
 unfolding beforeWalk
-buffers t = simp (in-range (t .before .before .before), le-ltb _ _ (t .before .before .if3 .left), eq-eqb _ _ (t .before .if4 .left), sym (t .pages-touched .ensures .0))
+buffers t =
+    let e = t .before in
+    simp (in-range (e .before .before), le-ltb _ _ (e .before .if3 .left), eq-eqb _ _ (e .if4 .left), sym (t .pages-touched .ensures .0))
 
 returns-4 : tie.Need-returns-4
-returns-4 c = rw (buffers (c .before)) (⊎-elim (λ w. simp (lt-ltb _ _ (w .taken))) (λ w. simp (le-ltb _ _ (w .0 .left), w .1 .taken)) (c .if5 .came))
+returns-4 c =
+    rw (buffers (c .before))
+    (⊎-elim (λ w. simp (lt-ltb _ _ (w .taken))) (λ w. simp (le-ltb _ _ (w .0 .left), w .1 .taken)) (c .if5 .came))
 
 returns-5 : tie.Need-returns-5
 returns-5 c = rw (buffers (c .before .before)) (simp (le-ltb _ _ (c .before .if5 .left), c .if6 .left))

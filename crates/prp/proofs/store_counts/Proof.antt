@@ -1,9 +1,10 @@
 use borrow.Author.Needs.{needs}
+use mathlib.Core.List.{List}
 use mathlib.Core.Path.{_≡_, refl, ap, _∙_}
 use native.Mathlib.Nat.{sub-zero}
 use native.Mathlib.Numerals.{add-one}
 use native.Mathlib.Omega.{arith}
-use Prim.Native.Nat.{suc, _-_, _*_, _≤_, _<_, min}
+use Prim.Native.Nat.{ℕ, suc, _-_, _*_, _≤_, _<_, min}
 use lib.ListN.{length, take, drop}
 use lib.Seq.{sets, length-sets, length-take-le, take-all}
 use Rattle.le.specs.Le.{le}
@@ -26,53 +27,66 @@ Inv-loop prp1 len count page counts₀ room₀ left₀ last i₀ counts room lef
 abbrev μ-loop : tie.MeasureT-loop
 μ-loop prp1 len count page counts₀ room₀ left₀ last i₀ counts room left i = last - i
 
+abbrev entry : tie.At-loop Inv-loop μ-loop → tie.Start Inv-loop μ-loop
+entry l = l .before .before .before .before
+
+-- the byte counts of all pages
+abbrev all : tie.Start Inv-loop μ-loop → List ℕ
+all s = byteCounts (pageSize (s .args .page)) (s .args .prp1) (s .args .length) (s .args .count)
+
+size : (s : tie.Start Inv-loop μ-loop) → length (all s) ≡ s .args .count
+size s = counts-length (pageSize (s .args .page)) (s .args .prp1) (s .args .length) (s .args .count)
+
 loop-holds : tie.Need-loop-holds Inv-loop μ-loop
 unfolding numbers byteCounts
 loop-holds c =
     let s = c .before .before .before in
-    let all = ends-touched (pageSize (s .args .page)) (s .args .prp1) (s .args .length) (page-low (s .args .page)) (s .pre .0 .1 .0) in
-    (omega arith, (refl, rw (sub-zero (s .args .count), sub-zero (s .args .count - 1), c .before .page-size .ensures .0, c .page-offset .ensures .0) (refl, rw (s .pre .1 .0) all)))
-
-abbrev entry : tie.At-loop Inv-loop μ-loop → tie.Start Inv-loop μ-loop
-entry l = l .before .before .before .before
-
-size : (s : tie.Start Inv-loop μ-loop) → length (byteCounts (pageSize (s .args .page)) (s .args .prp1) (s .args .length) (s .args .count)) ≡ s .args .count
-size s = counts-length (pageSize (s .args .page)) (s .args .prp1) (s .args .length) (s .args .count)
+    let a = s .args in
+    let ends = ends-touched (pageSize (a .page)) (a .prp1) (a .length) (page-low (a .page)) (s .pre .0 .1 .0) in
+    let p = c .before .page-size .ensures .0 in
+    let o = c .page-offset .ensures .0 in
+    (omega arith, (refl, rw (sub-zero (a .count), sub-zero (a .count - 1), p, o) (refl, rw (s .pre .1 .0) ends)))
 
 same-size : (l : tie.At-loop Inv-loop μ-loop) → length (l .loop .counts) ≡ length (entry l .args .counts .now)
 same-size l = ap length (l .loop .inv .1 .0) ∙ simp length-sets
 
+-- the count of the next page is stored, and what is left is split over the others
+stored :
+    (l : tie.At-loop Inv-loop μ-loop) (x : ℕ) → l .loop .i < entry l .args .count → x ≡ min (l .loop .room) (l .loop .left) →
+    let s = entry l in
+    let i = l .loop .i in
+    let page = pageSize (s .args .page) in
+    (sets (l .loop .counts) (4 * i) (le 4 x) ≡ sets (s .args .counts .now) 0 (numbers 4 (take (suc i) (all s))))
+    × (drop (suc i) (all s) ≡ split page page (l .loop .left - x) (s .args .count - suc i))
+stored l x h e =
+    let s = entry l in
+    let i = l .loop .i in
+    let cut = l .loop .inv .1 .1 .0 ∙ split-next (pageSize (s .args .page)) (l .loop .room) (l .loop .left) (s .args .count) i h e in
+    let len = length-take-le i (all s) (omega (arith, size s)) in
+    (store-next 4 (s .args .counts .now) (take i (all s)) x (l .loop .inv .1 .0) len (take-next (all s) i cut), drop-next (all s) i cut)
+
 -- a page before the last is full
 full : (c : tie.In-loop Inv-loop μ-loop) → c .before .loop .room < c .before .loop .left
-full c = ends-full _ _ _ _ (search needs) (c .before .loop .inv .1 .1 .1)
+full c = ends-full (search needs) (c .before .loop .inv .1 .1 .1)
 
 loop-again : tie.Need-loop-again Inv-loop μ-loop
 loop-again c =
     let o = c .before .before .before .before .before in
     let l = o .before in
-    let s = entry l in
-    let all = byteCounts (pageSize (s .args .page)) (s .args .prp1) (s .args .length) (s .args .count) in
-    let i = l .loop .i in
-    let here : l .loop .room ≡ min (l .loop .room) (l .loop .left) = omega (arith, full o) in
-    let cut = l .loop .inv .1 .1 .0 ∙ split-next _ _ _ (s .args .count) i (l .loop .room) (search needs) here in
-    let len : length (take i all) ≡ i = length-take-le i all (omega (arith, size s)) in
-    let more : s .args .count - 1 - i ≡ suc (s .args .count - 1 - suc i) = omega arith in
-    rw (add-one, c .page-size2 .ensures .0) (omega arith, (c .before .before .before .put32 .ensures ∙ store-next 4 _ _ (take i all) _ _ i (l .loop .inv .1 .0) len (take-next all i _ _ cut), (drop-next all i _ _ cut, ends-next _ _ _ _ _ more (l .loop .inv .1 .1 .1))))
+    let s = stored l (l .loop .room) (search needs) (omega (arith, full o)) in
+    let ends = ends-next (entry l .args .count - 1 - suc (l .loop .i)) (omega arith) (l .loop .inv .1 .1 .1) in
+    rw (add-one, c .page-size2 .ensures .0) (omega arith, (c .before .before .before .put32 .ensures ∙ s .0, (s .1, ends)))
 
 returns : tie.Need-returns Inv-loop μ-loop
 returns c =
     let l = c .before .before .before .before .before in
     let s = entry l in
-    let all = byteCounts (pageSize (s .args .page)) (s .args .prp1) (s .args .length) (s .args .count) in
-    let i = l .loop .i in
-    let at-last : s .args .count - 1 ≡ i = omega arith in
-    let rest : l .loop .left ≤ l .loop .room = ends-last _ _ _ (s .args .count - 1 - i) (omega arith) (l .loop .inv .1 .1 .1) in
-    let here : l .loop .left ≡ min (l .loop .room) (l .loop .left) = omega arith in
-    let cut = l .loop .inv .1 .1 .0 ∙ split-next _ _ _ (s .args .count) i (l .loop .left) (omega arith) here in
-    let len : length (take i all) ≡ i = length-take-le i all (omega (arith, size s)) in
-    let done : suc i ≡ s .args .count = omega arith in
-    let stored : sets (l .loop .counts) (4 * (s .args .count - 1)) (le 4 (l .loop .left)) ≡ sets (s .args .counts .now) 0 (numbers 4 (take (suc i) all)) = rw at-last (store-next 4 _ _ (take i all) _ _ i (l .loop .inv .1 .0) len (take-next all i _ _ cut)) in
-    c .before .before .put322 .ensures ∙ (rw (done, take-all (s .args .count) all (omega (arith, size s))) at stored) ∙ numbers-put 4 _ all (rw (size s) (s .pre .1 .1))
+    let rest = ends-last (omega arith) (l .loop .inv .1 .1 .1) in
+    let at-last : s .args .count - 1 ≡ l .loop .i = omega arith in
+    let done : suc (l .loop .i) ≡ s .args .count = omega arith in
+    let t = stored l (l .loop .left) (omega arith) (omega (arith, rest)) .0 in
+    let whole = take-all (s .args .count) (all s) (omega (arith, size s)) in
+    c .before .before .put322 .ensures ∙ rw at-last (rw (done, whole) at t) ∙ numbers-put 4 _ (all s) (rw (size s) (s .pre .1 .1))
 
 same-length : tie.Need-same-length Inv-loop μ-loop
 same-length c = ap length (c .before .before .put322 .ensures) ∙ simp length-sets (same-size (c .before .before .before .before .before))
