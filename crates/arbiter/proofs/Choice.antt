@@ -28,7 +28,8 @@ use Rattle.arbiter.specs.declared.Chosen.{Chosen}
 use Rattle.arbiter.specs.declared.Chosen.the-variants.{Queue, Nobody}
 use Rattle.arbiter.specs.Word.{burstOf}
 use Rattle.arbiter.specs.Turns.{nextAfter, aboveZero, takes, turn}
-use Rattle.arbiter.specs.Arbiter.{withGroup, withLevels, refilled, some, ready, levelFull, charged, levelTurn, someWaits, someReady, toppedUp, ofTurn, ofLevel, orElse, byGroup, byLevel, byWeight, choice, refusalOf, anyone}
+use Rattle.arbiter.specs.Arbiter.{withGroup, withLevels, refilled, some, ready, levelFull, charged, levelTurn, someWaits, someReady}
+use Rattle.arbiter.specs.Arbiter.{toppedUp, ofTurn, ofLevel, orElse, byGroup, byLevel, byWeight, choice, refusalOf, anyone}
 use Rattle.arbiter.proofs.Levels.{ready-parts, topped-refilled, topped-kept}
 
 -- ---- whether there is a candidate
@@ -141,7 +142,8 @@ module _ (P : ℕ → Type 0) where
         ⊎-elim
         (λ (e : (p (g .holder) && aboveZero (g .remainder)) ≡ true).
         let y = and-true (p (g .holder)) _ e .0 in rw e (some-found 16 p _ (low _ (f _ y)) y, f _ y))
-        (λ (e : (p (g .holder) && aboveZero (g .remainder)) ≡ false). rw e (takes-is (some p) full (nextAfter p (g .holder)) (next-is (g .holder))))
+        (λ (e : (p (g .holder) && aboveZero (g .remainder)) ≡ false). rw e
+        (takes-is (some p) full (nextAfter p (g .holder)) (next-is (g .holder))))
         (bool-cases (p (g .holder) && aboveZero (g .remainder)))
 
     level-is : (b : Remainder) (l : Level) → LevelIs (ready l p) (levelTurn b l p)
@@ -174,8 +176,10 @@ module _ (P : ℕ → Type 0) where
         let m = levelTurn b (a .medium) (isSet (c .medium)) in
         let l = levelTurn b (a .low) (isSet (c .low)) in
         rw (← or-assoc (ready (a .high) (isSet (c .high))) (ready (a .medium) (isSet (c .medium))) (ready (a .low) (isSet (c .low))))
-        (or-is _ _ (ofLevel (λ l. withLevels a l (a .medium) (a .low)) h) _ (of-level-is _ _ h (level-is low (isSet (c .high)) (w .high) b (a .high)))
-        (or-is _ _ (ofLevel (λ l. withLevels a (a .high) l (a .low)) m) _ (of-level-is _ _ m (level-is low (isSet (c .medium)) (w .medium) b (a .medium)))
+        (or-is _ _ (ofLevel (λ l. withLevels a l (a .medium) (a .low)) h) _
+        (of-level-is _ _ h (level-is low (isSet (c .high)) (w .high) b (a .high)))
+        (or-is _ _ (ofLevel (λ l. withLevels a (a .high) l (a .low)) m) _
+        (of-level-is _ _ m (level-is low (isSet (c .medium)) (w .medium) b (a .medium)))
         (of-level-is _ _ l (level-is low (isSet (c .low)) (w .low) b (a .low)))))
 
     weight-is : (a : Arbiter) → ChosenIs (isSet (c .all) 0 || some (isSet (c .urgent)) || someWaits c) (byWeight a c)
@@ -184,13 +188,15 @@ module _ (P : ℕ → Type 0) where
         ⊎-elim (λ (e : isSet (c .all) 0 ≡ true). rw e (refl, w .all 0 e))
         (λ (e : isSet (c .all) 0 ≡ false).
         rw e
-        (or-is (some (isSet (c .urgent))) (someWaits c) (byGroup a (isSet (c .urgent))) (byLevel (toppedUp a c) c) (group-is low (isSet (c .urgent)) (w .urgent) a)
+        (or-is (some (isSet (c .urgent))) (someWaits c) (byGroup a (isSet (c .urgent))) (byLevel (toppedUp a c) c)
+        (group-is low (isSet (c .urgent)) (w .urgent) a)
         (rw (topped-ready a c) at (levels-is (toppedUp a c)))))
         (bool-cases (isSet (c .all) 0))
 
     choice-is : (a : Arbiter) → ChosenIs (anyone a c) (choice a c)
     unfolding anyone choice
-    choice-is a = pick-is (a .weighted) _ _ (byWeight a c) (byGroup a (isSet (c .all))) (weight-is a) (group-is low (isSet (c .all)) (w .all) a)
+    choice-is a =
+        pick-is (a .weighted) _ _ (byWeight a c) (byGroup a (isSet (c .all))) (weight-is a) (group-is low (isSet (c .all)) (w .all) a)
 
     -- the queue that is named is a candidate
     pub named : (a : Arbiter) {i : ℕ} {left : Arbiter} → choice a c ≡ Queue i left → P i

@@ -34,7 +34,8 @@ module _ (b : Remainder) (l : Level) (p : ℕ → Bool) where
   unfolding levelTurn
   level-idle e = rw e
 
-  pub level-turned : {full : Remainder} → full ≡ levelFull b (l .credit) → ready l p ≡ true → charged (l .credit) (turn full (l .group) p) ≡ levelTurn b l p
+  pub level-turned : {full : Remainder} → full ≡ levelFull b (l .credit) → ready l p ≡ true
+      → charged (l .credit) (turn full (l .group) p) ≡ levelTurn b l p
   unfolding levelTurn
   level-turned q e = rw (e, q)
 

@@ -15,12 +15,14 @@ use Rattle.arbiter.specs.Word.{burstOf}
 use Rattle.arbiter.specs.Turns.{turn}
 use Rattle.arbiter.specs.Arbiter.{withGroup, withLevels, levelTurn, toppedUp, ofTurn, byGroup, byLevel, byWeight, choice}
 
-pub group-turned : (a : Arbiter) (p : ℕ → Bool) {b : Remainder} {t : Turned} → b ≡ burstOf (a .word) → t ≡ turn b (a .group) p → ofTurn (withGroup a) t ≡ byGroup a p
+pub group-turned : (a : Arbiter) (p : ℕ → Bool) {b : Remainder} {t : Turned} → b ≡ burstOf (a .word) → t ≡ turn b (a .group) p
+    → ofTurn (withGroup a) t ≡ byGroup a p
 unfolding byGroup
 group-turned a p q e = rw (e, q)
 
 -- a level's answer s, met with the burst b
-pub level-gave : (l : Level) (p : ℕ → Bool) (w : ℕ) {b : Remainder} {t s : LevelTurned} → b ≡ burstOf w → t ≡ s → t ≡ levelTurn b l p → s ≡ levelTurn (burstOf w) l p
+pub level-gave : (l : Level) (p : ℕ → Bool) (w : ℕ) {b : Remainder} {t s : LevelTurned} → b ≡ burstOf w → t ≡ s → t ≡ levelTurn b l p
+    → s ≡ levelTurn (burstOf w) l p
 level-gave l p w q g e = cc
 
 module _ (a : Arbiter) (c : Candidates) where
@@ -42,7 +44,8 @@ module _ (a : Arbiter) (c : Candidates) where
   unfolding byLevel
   level-medium h m = rw (← h, ← m)
 
-  pub level-low : {i : ℕ} {l : Level} → High Idle → Medium Idle → Low (Served i l) → Queue i (withLevels a (a .high) (a .medium) l) ≡ byLevel a c
+  pub level-low : {i : ℕ} {l : Level} → High Idle → Medium Idle → Low (Served i l)
+      → Queue i (withLevels a (a .high) (a .medium) l) ≡ byLevel a c
   unfolding byLevel
   level-low h m w = rw (← h, ← m, ← w)
 

@@ -11,7 +11,8 @@ use Rattle.arbiter.specs.declared.Chosen.{Chosen}
 use Rattle.arbiter.specs.declared.Chosen.the-variants.{Queue, Nobody}
 use Rattle.arbiter.specs.Word.{burstOf}
 use Rattle.arbiter.specs.Turns.{nextAfter, turn}
-use Rattle.arbiter.specs.Arbiter.{withLevels, withCredit, fresh, ready, levelTurn, someWaits, someReady, toppedUp, byGroup, byLevel, byWeight, choice}
+use Rattle.arbiter.specs.Arbiter.{withLevels, withCredit, fresh, ready, levelTurn, someWaits, someReady, toppedUp, byGroup, byLevel}
+use Rattle.arbiter.specs.Arbiter.{byWeight, choice}
 
 abbrev pub maskOfIds : List ℕ → ℕ
 maskOfIds [] = 0
@@ -65,7 +66,8 @@ Examples =
     × (credits (toppedUp spent (classes [] (1 ∷ []) (2 ∷ []) [])) ≡ 0 ∷ 1 ∷ 4 ∷ [])
     × (credits (toppedUp spent (urgents (1 ∷ []))) ≡ 0 ∷ 1 ∷ 4 ∷ [])
     × (named (fresh true 0x00010000) (times 6 (classes [] (1 ∷ []) (2 ∷ []) [])) ≡ 1 ∷ 2 ∷ 2 ∷ 1 ∷ 2 ∷ 2 ∷ [])
-    -- burst 2, medium weight 2: the refill for queue 1 leaves queue 2 the rest of its turn; then one credit is left, and queue 4's turn is as short
+    -- burst 2, medium weight 2: the refill for queue 1 leaves queue 2 the rest of its turn; then one credit is left, and queue 4's
+    -- turn is as short
     × (named (fresh true 0x00010001)
     (highs (1 ∷ []) ∷ mediums (2 ∷ 4 ∷ []) ∷ highs (1 ∷ []) ∷ times 4 (mediums (2 ∷ 4 ∷ [])))
     ≡ 1 ∷ 2 ∷ 1 ∷ 2 ∷ 4 ∷ 2 ∷ 2 ∷ [])
@@ -84,5 +86,6 @@ Examples =
     × (drop 63 (named (fresh false 6) (times 65 (urgents (1 ∷ 2 ∷ [])))) ≡ 1 ∷ 2 ∷ [])
 
 pub examples : Examples
-unfolding Examples named choice byWeight byLevel byGroup toppedUp someWaits someReady levelTurn ready someBelow turn nextAfter burstOf first isSet
+unfolding Examples named choice byWeight byLevel byGroup toppedUp someWaits someReady levelTurn ready someBelow turn nextAfter burstOf
+    first isSet
 examples = (refl, refl, refl, refl, refl, refl, refl, refl, refl, refl, refl, refl)

@@ -5,7 +5,8 @@ ghost use Prim.Native.Nat.{_<_};
 ghost use Rattle.bits.specs.Bits.{isSet};
 ghost use Rattle.arbiter.specs.Word.{burstOf, weightAt};
 ghost use Rattle.arbiter.specs.Turns.{nextAfter, aboveZero, lowered, served, turn};
-ghost use Rattle.arbiter.specs.Arbiter.{some, levelFull, ready, levelTurn, fresh, refilled, someWaits, someReady, toppedUp, byGroup, byLevel, byWeight, choice};
+ghost use Rattle.arbiter.specs.Arbiter.{some, levelFull, ready, levelTurn, fresh, refilled, someWaits, someReady, toppedUp, byGroup};
+ghost use Rattle.arbiter.specs.Arbiter.{byLevel, byWeight, choice};
 
 // What is left of a turn.
 pub enum Remainder {

@@ -122,7 +122,8 @@ module _ (m : ℕ) (h : m < 2 ^ 64) where
     above-is : lowestAbove m (lowest m) ≡ lowest (rest m)
     above-is =
         let w = lowest-two in
-        first-is (isSet m) (lowest m + 1) (63 - lowest m) (lowest (rest m)) (omega (arith, w .rising)) (omega (arith, w .second .low, w .first .low)) (w .both)
+        first-is (isSet m) (lowest m + 1) (63 - lowest m) (lowest (rest m)) (omega (arith, w .rising))
+        (omega (arith, w .second .low, w .first .low)) (w .both)
         (λ j a b. sym (w .first .others j (λ q. omega arith)) ∙ w .second .lower j b)
 
     pub two-some : Tags (lowest m) (lowest (rest m)) (rest (rest m)) ≡ takenTwo m
@@ -144,7 +145,11 @@ module _ (m : ℕ) (h : m < 2 ^ 64) where
       rw (el, eu, et) at (lowest-two l)) (lt-or-ge (freeCount m) 2)
 
   pub too-few : (takenTwo m ≡ TooFew) ↔ (freeCount m < 2)
-  too-few = (λ e. ⊎-elim (λ (l : freeCount m < 2). l) (λ (l : 2 ≤ freeCount m). never e (two-some l)) (lt-or-ge (freeCount m) 2), λ l. sym (two-none l))
+  too-few = (
+    λ e. ⊎-elim (λ (l : freeCount m < 2). l) (λ (l : 2 ≤ freeCount m). never e (two-some l)) (lt-or-ge (freeCount m) 2),
+    λ l. sym
+        (two-none l),
+  )
     where
       never : {t u left : ℕ} → takenTwo m ≡ TooFew → Tags t u left ≡ takenTwo m → freeCount m < 2
       never e q = let n : _≡_ {A = ℕ} 0 1 = cc in absurd (omega arith)
@@ -178,7 +183,8 @@ module _ (m t : ℕ) where
   -- nothing changed, or the tag was added
   back-cases : (m ≡ givenBack m t) ⊎ ((t < 64) × (isSet m t ≡ false) × (m + 2 ^ t ≡ givenBack m t))
   back-cases =
-      ⊎-elim (λ (l : t < 64). ⊎-elim (λ (e : isSet m t ≡ true). inl (back-free l e)) (λ (e : isSet m t ≡ false). inr (l, e, back-taken l e)) (bool-cases (isSet m t)))
+      ⊎-elim (λ (l : t < 64). ⊎-elim (λ (e : isSet m t ≡ true). inl (back-free l e))
+      (λ (e : isSet m t ≡ false). inr (l, e, back-taken l e)) (bool-cases (isSet m t)))
       (λ (l : 64 ≤ t). inl (back-above l)) (lt-or-ge t 64)
 
   pub back-other : (j : ℕ) → (j ≡ t → ⊥) → isSet (givenBack m t) j ≡ isSet m j

@@ -1,23 +1,24 @@
 -- What the book has is what the controller has: the invariant of demand 3 over the calls. Assumes nothing.
 use Prim.Native.Nat.{ℕ, _*_, _<_, _^_}
 use mathlib.Core.Bool.{Bool, true, false}
-use mathlib.Core.List.{List, _++_}
+use mathlib.Core.List.{List, []}
 use mathlib.Core.Path.{_≡_, refl, sym, ap}
 use native.Mathlib.Omega.{arith}
 use lib.ListN.{length, getD, set}
 use borrow.Author.Tests.{eq-eqb, ne-eqb}
 use Rattle.rules.proofs.Tests.{clash}
-use Rattle.le.specs.Memory.{part}
+use Rattle.le.specs.Memory.{Memory, part}
 use Rattle.controller.specs.declared.SubmissionQueue.{SubmissionQueue}
 use Rattle.controller.specs.declared.CompletionQueue.{CompletionQueue}
 use Rattle.controller.specs.declared.Command.{Command}
 use Rattle.controller.specs.declared.Controller.{Controller}
 use Rattle.controller.specs.State.{noSq, noCq, noCommand, sqAt, cqAt, commandAt, freshController}
-use Rattle.controller.specs.Calls.{Call, Outcome}
+use Rattle.controller.specs.Answers.{Outcome}
+use Rattle.controller.specs.Calls.{Call}
 use Rattle.controller.specs.Book.{Book, BookSq, BookCq, BookCommand, update, newCq, empty, enter}
-use Rattle.controller.specs.Demand.{headOf, readFrom, Kept}
+use Rattle.controller.specs.Demand.{headsOn, Place, standing, Kept}
 use Rattle.controller.proofs.Lists.{set-ind, getD-same}
-use Rattle.controller.proofs.Phase.{Phase}
+use Rattle.ring.proofs.Phase.{Phase}
 
 -- what the book has of a submission queue, and of a command
 abbrev pub bookSq : SubmissionQueue → BookSq
@@ -27,28 +28,33 @@ abbrev pub bookCommand : Command → BookCommand
 bookCommand k = record { sq = k .sq; cid = k .cid; verdict = k .verdict; second = k .second }
 
 -- a completion queue that exists, the book's account of it, and the memory that holds its ring
-pub record Queue (x : CompletionQueue) (y : BookCq) (m : List ℕ) : Type 0 where
+pub record Queue (x : CompletionQueue) (y : BookCq) (m : Memory) : Type 0 where
   pub size-same : y .size ≡ x .ring .size
   pub head-same : y .head ≡ x .ring .head
-  pub phase : Phase (x .ring .size) (x .ring .head) (x .ring .tail) (x .phase) (y .tag) (part m (x .ring .base) (16 * x .ring .size)) (y .waiting)
+  pub phase :
+      let r = x .ring in
+      Phase (r .size) (r .head) (r .tail) (x .phase) (y .tag) (part m (r .base) (16 * r .size)) (y .waiting)
 
-pub record Account (x : CompletionQueue) (y : BookCq) (m : List ℕ) : Type 0 where
+-- where the book has the reader
+abbrev pub placeOf : BookCq → Place
+placeOf y = record { head = y .head; tag = y .tag }
+
+-- and the head writes accepted at it, which leave a reader where the book has it
+pub record Account (x : CompletionQueue) (y : BookCq) (m : Memory) (vs : List ℕ) : Type 0 where
   pub unborn : x .ring .exists ≡ false → y ≡ newCq 0
   pub queue : x .ring .exists ≡ true → Queue x y m
+  pub stands : standing vs ≡ placeOf y
 
 -- the book and the controller, with the account of completion queue q
-pub record World (q : ℕ) (c : Controller) (b : Book) (m : List ℕ) : Type 0 where
+pub record World (q : ℕ) (c : Controller) (b : Book) (m : Memory) (vs : List ℕ) : Type 0 where
   pub sqs : (i : ℕ) → b .sqs i ≡ bookSq (sqAt c i)
   pub commands : (t : ℕ) → b .commands t ≡ bookCommand (commandAt c t)
   pub cids : (t : ℕ) → commandAt c t .cid < 2 ^ 16
-  pub account : Account (cqAt c q) (b .cqs q) m
+  pub account : Account (cqAt c q) (b .cqs q) m vs
 
--- what a call leaves, and that the reader's place moves with the book's
-pub record Next (q : ℕ) (b : Book) (m : List ℕ) (call : Call) (o : Outcome) : Type 0 where
-  pub world : World q (o .controller) (enter b m call (o .answer)) (o .memory)
-  pub place : (ring : List ℕ) (size : ℕ) (vs : List ℕ)
-      → readFrom ring size (b .cqs q .head) (b .cqs q .tag) (headOf q call (o .answer) ++ vs)
-      ≡ readFrom ring size (enter b m call (o .answer) .cqs q .head) (enter b m call (o .answer) .cqs q .tag) vs
+-- what a call leaves
+abbrev pub Next : ℕ → Book → Memory → List ℕ → Call → Outcome → Type 0
+Next q b m vs call o = World q (o .controller) (enter b m call (o .answer)) (o .memory) (headsOn q vs call (o .answer))
 
 -- the same store into the book and into the controller's list
 module _ {A B : Type 0} (g : A → B) (l : List A) (d : A) (f : ℕ → B) (k : ℕ) (x : A) (v : B) where
@@ -56,23 +62,30 @@ module _ {A B : Type 0} (g : A → B) (l : List A) (d : A) (f : ℕ → B) (k : 
   agree-set h e all = set-ind l k x d (λ i y. update f k v i ≡ g y) h (rw (eq-eqb k k refl) e) (λ i n. rw (ne-eqb i k n) (all i))
 
 -- a fresh controller and an empty book
-pub world-fresh : (weighted : Bool) (word q : ℕ) (m : List ℕ) → World q (freshController weighted word) empty m
+pub world-fresh : (weighted : Bool) (word q : ℕ) (m : Memory) → World q (freshController weighted word) empty m []
 world-fresh weighted word q m =
     record {
       sqs = λ i. ap bookSq (sym (getD-same 16 i noSq));
       commands = λ t. ap bookCommand (sym (getD-same 64 t noCommand));
       cids = λ t. omega (arith, ap (λ (k : Command). k .cid) (getD-same 64 t noCommand));
-      account = record { unborn = λ e. refl; queue = λ e. absurd (clash e (ap (λ (x : CompletionQueue). x .ring .exists) (getD-same 16 q noCq))) };
+      account =
+          record {
+            unborn = λ e. refl;
+            queue = λ e. absurd (clash e (ap (λ (x : CompletionQueue). x .ring .exists) (getD-same 16 q noCq)));
+            stands = refl;
+          };
     }
 
 -- memory that keeps the ring of q keeps it all
-pub account-kept : {x : CompletionQueue} {y : BookCq} {m m′ : List ℕ}
-    → (x .ring .exists ≡ true → part m′ (x .ring .base) (16 * x .ring .size) ≡ part m (x .ring .base) (16 * x .ring .size)) → Account x y m → Account x y m′
+pub account-kept : {x : CompletionQueue} {y : BookCq} {m m′ : Memory} {vs : List ℕ}
+    → (x .ring .exists ≡ true → part m′ (x .ring .base) (16 * x .ring .size) ≡ part m (x .ring .base) (16 * x .ring .size))
+    → Account x y m vs → Account x y m′ vs
 account-kept k a =
     record {
       unborn = a .unborn;
       queue = λ e. let z = a .queue e in record { size-same = z .size-same; head-same = z .head-same; phase = rw (k e) (z .phase) };
+      stands = a .stands;
     }
 
-pub kept : {q : ℕ} {c : Controller} {b : Book} {m m′ : List ℕ} → Kept c q m m′ → World q c b m → World q c b m′
+pub kept : {q : ℕ} {c : Controller} {b : Book} {m m′ : Memory} {vs : List ℕ} → Kept c q m m′ → World q c b m vs → World q c b m′ vs
 kept k w = record { sqs = w .sqs; commands = w .commands; cids = w .cids; account = account-kept k (w .account) }

@@ -6,25 +6,29 @@ use mathlib.Core.Logic.{_⊎_, inl, inr, ⊎-elim, ⊎-swap}
 use mathlib.Core.Path.{_≡_, refl, sym, ap, subst⁻¹, _∙_}
 use native.Mathlib.Omega.{arith}
 use lib.Dec.{ltb}
-use lib.ListN.{getD, set}
+use lib.ListN.{getD}
 use lib.Seq.{getD-set-same, getD-set-other}
 use borrow.Author.Tests.{ltb-true, ltb-false, lt-ltb}
 use Rattle.rules.proofs.Tests.{or-false, same-or-not, lt-or-ge}
-use Rattle.bits.specs.Bits.{someBelow}
+use Rattle.arbiter.specs.declared.Arbiter.{Arbiter}
 use Rattle.bits.proofs.Some.{none-some}
+use Rattle.le.specs.Memory.{Memory}
 use Rattle.controller.specs.declared.Ring.{Ring}
 use Rattle.controller.specs.declared.SubmissionQueue.{SubmissionQueue}
 use Rattle.controller.specs.declared.CompletionQueue.{CompletionQueue}
+use Rattle.controller.specs.declared.Command.{Command}
 use Rattle.controller.specs.declared.Controller.{Controller}
-use Rattle.controller.specs.State.{noSq, noCq, sqAt, cqAt, withSq, withCq, withHead, withTail, freshController}
-use Rattle.controller.specs.Rings.{someRing, shareByte, shares, outside}
+use Rattle.controller.specs.State.{noSq, noCq, sqAt, cqAt, withSq, withCq, withCommands, withHead, withTail, freshController}
+use Rattle.controller.specs.Rings.{RingTest, existing, someSq, someCq, someRing, shareByte, sharing, shares, endsPast, outside}
 use Rattle.controller.specs.Valid.{RingOk, Valid}
-use Rattle.controller.specs.Create.{newRing}
+use Rattle.controller.specs.Create.{newCq, newSq}
 use Rattle.controller.specs.Starting.{oneTaken, pairTaken}
 use Rattle.controller.specs.Finishing.{cqOf, finishedController, posted}
-use Rattle.controller.specs.Calls.{Call, Outcome, Reachable, fresh, after}
+use Rattle.controller.specs.Answers.{Outcome}
+use Rattle.controller.specs.Calls.{Call, Reachable, fresh, after}
 use Rattle.controller.proofs.Lists.{set-same, getD-same}
-use Rattle.controller.proofs.Made.{Made, refuses, marks, creates-cq, creates-sq, moves-tail, moves-head, takes-one, takes-pair, finishes, made}
+use Rattle.controller.proofs.Made.{takes-one, takes-pair, finishes, Made, refuses, marks, creates-cq, creates-sq, moves-tail}
+use Rattle.controller.proofs.Made.{moves-head, commands, made}
 use Rattle.controller.proofs.Validity.{sq-below, cq-below, valid}
 
 -- ---- the rings of a controller, by kind and id
@@ -54,30 +58,23 @@ module _ {c : Controller} (v : Valid c) where
   ring-ok (cq i) = v .cq-ok i
 
   -- where no ring passes a test, each that exists fails it
-  module _ (p : ℕ → Ring → Bool) (e : someRing c p ≡ false) where
-    abbrev of-sqs : ℕ → Bool
-    of-sqs i = sqAt c i .ring .exists && p 64 (sqAt c i .ring)
-
-    abbrev of-cqs : ℕ → Bool
-    of-cqs i = cqAt c i .ring .exists && p 16 (cqAt c i .ring)
-
-    none : (someBelow 16 of-sqs ≡ false) × (someBelow 16 of-cqs ≡ false)
-    unfolding someRing
-    none = or-false (someBelow 16 of-sqs) (someBelow 16 of-cqs) e
-
-    no-ring : (x : RingId) → ringAt c x .exists ≡ true → p (entryOf x) (ringAt c x) ≡ false
-    no-ring (sq i) h = rw h at (none-some 16 of-sqs (none .0) i (sq-below v h))
-    no-ring (cq i) h = rw h at (none-some 16 of-cqs (none .1) i (cq-below v h))
+  no-ring : (p : RingTest) → someRing c p ≡ false → (x : RingId) → ringAt c x .exists ≡ true → p (entryOf x) (ringAt c x) ≡ false
+  unfolding someRing
+  no-ring p e (sq i) h =
+      rw h at (none-some 16 (λ j. existing p 64 (sqAt c j .ring)) (or-false (someSq (c .sqs) p) (someCq (c .cqs) p) e .0) i (sq-below v h))
+  no-ring p e (cq i) h =
+      rw h at (none-some 16 (λ j. existing p 16 (cqAt c j .ring)) (or-false (someSq (c .sqs) p) (someCq (c .cqs) p) e .1) i (cq-below v h))
 
   -- "a ring does not lie wholly in the memory given" is said of none
   pub ring-inside : {n : ℕ} → outside c n ≡ false → (x : RingId) → ringAt c x .exists ≡ true → ringAt c x .base + bytesOf c x ≤ n
   unfolding outside
-  ring-inside {n} e x h = ltb-false n _ (no-ring (λ entry r. ltb n (r .base + entry * r .size)) e x h)
+  ring-inside {n} e x h = ltb-false n _ (no-ring (endsPast n) e x h)
 
   -- "the new ring shares a byte with an existing ring" is said of none
-  ring-alone : (a k : ℕ) → shares c a k ≡ false → (x : RingId) → ringAt c x .exists ≡ true → shareByte a k (ringAt c x .base) (bytesOf c x) ≡ false
+  ring-alone : (a k : ℕ) → shares c a k ≡ false → (x : RingId) → ringAt c x .exists ≡ true
+      → shareByte a k (ringAt c x .base) (bytesOf c x) ≡ false
   unfolding shares
-  ring-alone a k e x h = no-ring (λ entry r. shareByte a k (r .base) (entry * r .size)) e x h
+  ring-alone a k e x h = no-ring (sharing a k) e x h
 
 -- ---- bytes
 
@@ -139,60 +136,82 @@ some-bytes : (x : RingId) (n : ℕ) → 2 ≤ n → 0 < entryOf x * n
 some-bytes (sq i) n h = omega arith
 some-bytes (cq i) n h = omega arith
 
-module _ {c : Controller} (v : Valid c) where
-  -- the new ring r at w is apart from every ring
-  abbrev Alone : RingId → Ring → Type 0
-  Alone w r = (x : RingId) → ringAt c x .exists ≡ true → Disjoint (r .base) (entryOf w * r .size) (ringAt c x .base) (bytesOf c x)
+-- ---- what a call does to the rings: it moves heads and tails, or it adds one that is apart from all others
 
-  alone : (w : RingId) (r : Ring) → 2 ≤ r .size → shares c (r .base) (entryOf w * r .size) ≡ false → Alone w r
+pub data RingsMade (c d : Controller) : Type 0 where
+  still-rings : ((x : RingId) → still (ringAt d x) ≡ still (ringAt c x)) → RingsMade c d
+  adds-ring : (w : RingId) (r : Ring) → r .exists ≡ true → ringAt d w ≡ r → ((x : RingId) → (x ≡ w → ⊥) → ringAt d x ≡ ringAt c x)
+      → ((x : RingId) → ringAt c x .exists ≡ true → Disjoint (r .base) (entryOf w * r .size) (ringAt c x .base) (bytesOf c x))
+      → RingsMade c d
+
+module _ {c : Controller} (v : Valid c) where
+  -- the new ring r at w shares no byte with another
+  alone : (w : RingId) (r : Ring) → 2 ≤ r .size → shares c (r .base) (entryOf w * r .size) ≡ false
+      → (x : RingId) → ringAt c x .exists ≡ true → Disjoint (r .base) (entryOf w * r .size) (ringAt c x .base) (bytesOf c x)
   alone w r s e x h =
-      disjoint (r .base) (entryOf w * r .size) (ringAt c x .base) (bytesOf c x) (some-bytes w (r .size) s) (some-bytes x _ (ring-ok v x h .low))
+      disjoint (r .base) (entryOf w * r .size) (ringAt c x .base) (bytesOf c x) (some-bytes w (r .size) s)
+      (some-bytes x _ (ring-ok v x h .low))
       (ring-alone v (r .base) (entryOf w * r .size) e x h)
 
-  with-sq : (i : ℕ) (q : SubmissionQueue) → i < 16 → Alone (sq i) (q .ring) → Apart (ringAt c) → Apart (ringAt (withSq c i q))
-  with-sq i q l n =
-      new-apart (ringAt c) (ringAt (withSq c i q)) (sq i) (q .ring) (ap (λ x. x .ring) (getD-set-same (c .sqs) i q noSq (rw (v .sqs-16) l))) others n
+  adds-sq : (i : ℕ) (q : SubmissionQueue) → i < 16 → q .ring .exists ≡ true → 2 ≤ q .ring .size
+      → shares c (q .ring .base) (64 * q .ring .size) ≡ false → RingsMade c (withSq c i q)
+  adds-sq i q l h s e =
+      adds-ring (sq i) (q .ring) h (ap (λ x. x .ring) (getD-set-same (c .sqs) i q noSq (rw (v .sqs-16) l))) others
+      (alone (sq i) (q .ring) s e)
     where
       others : (x : RingId) → (x ≡ sq i → ⊥) → ringAt (withSq c i q) x ≡ ringAt c x
       others (sq j) d = ap (λ x. x .ring) (getD-set-other (c .sqs) i j q noSq (λ e. d (ap sq e)))
       others (cq j) d = refl
 
-  with-cq : (i : ℕ) (q : CompletionQueue) → i < 16 → Alone (cq i) (q .ring) → Apart (ringAt c) → Apart (ringAt (withCq c i q))
-  with-cq i q l n =
-      new-apart (ringAt c) (ringAt (withCq c i q)) (cq i) (q .ring) (ap (λ x. x .ring) (getD-set-same (c .cqs) i q noCq (rw (v .cqs-16) l))) others n
+  adds-cq : (i : ℕ) (q : CompletionQueue) → i < 16 → q .ring .exists ≡ true → 2 ≤ q .ring .size
+      → shares c (q .ring .base) (16 * q .ring .size) ≡ false → RingsMade c (withCq c i q)
+  adds-cq i q l h s e =
+      adds-ring (cq i) (q .ring) h (ap (λ x. x .ring) (getD-set-same (c .cqs) i q noCq (rw (v .cqs-16) l))) others
+      (alone (cq i) (q .ring) s e)
     where
       others : (x : RingId) → (x ≡ cq i → ⊥) → ringAt (withCq c i q) x ≡ ringAt c x
       others (sq j) d = refl
       others (cq j) d = ap (λ x. x .ring) (getD-set-other (c .cqs) i j q noCq (λ e. d (ap cq e)))
 
--- a queue whose ring is the same but for its head and tail
-sq-same : (xs : List SubmissionQueue) (ys : List CompletionQueue) (i : ℕ) (q : SubmissionQueue) → still (q .ring) ≡ still (getD xs i noSq .ring)
-    → Apart (ringIn xs ys) → Apart (ringIn (set xs i q) ys)
-sq-same xs ys i q e = same-apart (ringIn xs ys) (ringIn (set xs i q) ys) same
-  where
-    same : (x : RingId) → still (ringIn (set xs i q) ys x) ≡ still (ringIn xs ys x)
-    same (sq j) = set-same xs i q noSq (λ x. still (x .ring)) e j
-    same (cq j) = refl
+module _ (c : Controller) (i : ℕ) where
+  -- a queue whose ring is the same but for its head and tail
+  sq-still : (q : SubmissionQueue) → still (q .ring) ≡ still (sqAt c i .ring) → RingsMade c (withSq c i q)
+  sq-still q e = still-rings same
+    where
+      same : (x : RingId) → still (ringAt (withSq c i q) x) ≡ still (ringAt c x)
+      same (sq j) = set-same (c .sqs) i q noSq (λ x. still (x .ring)) e j
+      same (cq j) = refl
 
-cq-same : (xs : List SubmissionQueue) (ys : List CompletionQueue) (i : ℕ) (q : CompletionQueue) → still (q .ring) ≡ still (getD ys i noCq .ring)
-    → Apart (ringIn xs ys) → Apart (ringIn xs (set ys i q))
-cq-same xs ys i q e = same-apart (ringIn xs ys) (ringIn xs (set ys i q)) same
-  where
-    same : (x : RingId) → still (ringIn xs (set ys i q) x) ≡ still (ringIn xs ys x)
-    same (sq j) = refl
-    same (cq j) = set-same ys i q noCq (λ x. still (x .ring)) e j
+  cq-still : (q : CompletionQueue) → still (q .ring) ≡ still (cqAt c i .ring) → RingsMade c (withCq c i q)
+  cq-still q e = still-rings same
+    where
+      same : (x : RingId) → still (ringAt (withCq c i q) x) ≡ still (ringAt c x)
+      same (sq j) = refl
+      same (cq j) = set-same (c .cqs) i q noCq (λ x. still (x .ring)) e j
 
-apart-kept : {c : Controller} {m : List ℕ} {call : Call} {o : Outcome} → Valid c → Apart (ringAt c) → Made c m call o → Apart (ringAt (o .controller))
+-- the commands have no part in it
+with-commands : {c d : Controller} (ks : List Command) (free : ℕ) (a : Arbiter) → RingsMade c d → RingsMade c (withCommands d ks free a)
+with-commands ks free a (still-rings e) = still-rings e
+with-commands ks free a (adds-ring w r h e o n) = adds-ring w r h e o n
+
+pub of-rings : {c : Controller} {m : Memory} {call : Call} {o : Outcome} → Valid c → Made c m call o → RingsMade c (o .controller)
 unfolding oneTaken pairTaken finishedController posted
-apart-kept v h (refuses call n) = h
-apart-kept {c} v h (marks id x r e) = sq-same (c .sqs) (c .cqs) id _ refl h
-apart-kept v h (creates-cq id size base r) = with-cq v id _ (r .id-low) (alone v (cq id) (newRing size base) (r .ring .low) (r .ring .alone)) h
-apart-kept v h (creates-sq id size base k class r) = with-sq v id _ (r .id-low) (alone v (sq id) (newRing size base) (r .ring .low) (r .ring .alone)) h
-apart-kept {c} v h (moves-tail id x r e) = sq-same (c .sqs) (c .cqs) id _ refl h
-apart-kept {c} v h (moves-head id x r) = cq-same (c .sqs) (c .cqs) id _ refl h
-apart-kept {c} v h (takes-one id a t left s e w) = sq-same (c .sqs) (c .cqs) id _ refl h
-apart-kept {c} v h (takes-pair id a t u left s e w) = sq-same (c .sqs) (c .cqs) id _ refl h
-apart-kept {c} v h (finishes tag status result r) = cq-same (c .sqs) (c .cqs) (cqOf c tag) _ refl h
+of-rings v (refuses call n) = still-rings (λ x. refl)
+of-rings {c} v (marks id x r e) = sq-still c id _ refl
+of-rings v (creates-cq id size base r) = adds-cq v id (newCq size base) (r .id-low) refl (r .ring .low) (r .ring .alone)
+of-rings v (creates-sq id size base k class r) =
+    adds-sq v id (newSq size base k class) (r .id-low) refl (r .ring .low) (r .ring .alone)
+of-rings {c} v (moves-tail id x r e) = sq-still c id _ refl
+of-rings {c} v (moves-head id x r) = cq-still c id _ refl
+of-rings {c} v (commands (takes-one id a t left s e w)) = with-commands _ _ _ (sq-still c id _ refl)
+of-rings {c} v (commands (takes-pair id a t u left s e w)) = with-commands _ _ _ (sq-still c id _ refl)
+of-rings {c} v (commands (finishes tag status result r)) = with-commands _ _ _ (cq-still c (cqOf c tag) _ refl)
+
+-- ---- no two rings share a byte
+
+apart-kept : {c d : Controller} → RingsMade c d → Apart (ringAt c) → Apart (ringAt d)
+apart-kept {c} {d} (still-rings e) = same-apart (ringAt c) (ringAt d) e
+apart-kept {c} {d} (adds-ring w r h e o n) = new-apart (ringAt c) (ringAt d) w r e o n
 
 no-rings : (weighted : Bool) (word : ℕ) (x : RingId) → ringAt (freshController weighted word) x .exists ≡ true → ⊥
 no-rings weighted word (sq i) = rw (getD-same 16 i noSq) (λ e. true≢false (sym e))
@@ -202,4 +221,10 @@ no-rings weighted word (cq i) = rw (getD-same 16 i noCq) (λ e. true≢false (sy
 pub apart : {c : Controller} → Reachable c → (x y : RingId) → (x ≡ y → ⊥) → ringAt c x .exists ≡ true → ringAt c y .exists ≡ true
     → Disjoint (ringAt c x .base) (bytesOf c x) (ringAt c y .base) (bytesOf c y)
 apart (fresh weighted word) = λ x y d a b. absurd (no-rings weighted word x a)
-apart (after {c} r m call) = apart-kept (valid r) (apart r) (made c m (valid r .free-64) call)
+apart (after {c} r m call) = apart-kept (of-rings (valid r) (made c m (valid r .free-64) call)) (apart r)
+
+-- a ring that exists stays
+pub ring-stays : {c d : Controller} → RingsMade c d → (x : RingId) → ringAt c x .exists ≡ true → ringAt d x .exists ≡ true
+ring-stays (still-rings e) x h = ap (λ (r : Ring). r .exists) (e x) ∙ h
+ring-stays (adds-ring w r h e o n) x y =
+    ⊎-elim (λ (p : x ≡ w). rw (p, e) h) (λ (p : x ≡ w → ⊥). rw (o x p) y) (same-ring x w)

@@ -10,24 +10,26 @@ use lib.ListN.{length, getD, set}
 use borrow.Author.Tests.{eq-eqb, ne-eqb, eqb-false}
 use Rattle.rules.specs.Rules.{pick}
 use Rattle.rules.proofs.Tests.{clash, same-or-not}
+use Rattle.le.specs.Memory.{Memory}
 use Rattle.entry.specs.declared.completion.Completion.{Completion}
 use Rattle.entry.proofs.Completions.{Within}
 use Rattle.ring.specs.Slots.{distance}
+use Rattle.ring.proofs.Phase.{post, waiting-length}
 use Rattle.controller.specs.declared.Command.{Command}
 use Rattle.controller.specs.declared.Controller.{Controller}
 use Rattle.controller.specs.State.{noCq, noCommand, cqAt, commandAt}
-use Rattle.controller.specs.Finishing.{cqOf, full, statusOf, released, unlinked, posted, finishedController, completionOf, finishMemory}
+use Rattle.controller.specs.Finishing.{cqOf, full, statusOf, released, unlinked, posted, finishedController, completionOf}
+use Rattle.controller.specs.Finishing.{postedMemory}
 use Rattle.controller.specs.Rings.{outside}
-use Rattle.controller.specs.Calls.{finish, finished, Reachable}
+use Rattle.controller.specs.Answers.{finished, outcome}
+use Rattle.controller.specs.Calls.{finish, Reachable}
 use Rattle.controller.specs.Book.{Book, BookCq, update, withCommand, bookStatus, failSecond, waits, finishBook, enter}
-use Rattle.controller.specs.Demand.{readFrom}
 use Rattle.controller.proofs.Lists.{set-same}
 use Rattle.rules.proofs.Cases.{pick-cases}
 use Rattle.controller.proofs.Made.{Finishable}
 use Rattle.controller.proofs.Unlinked.{unlinked-same}
 use Rattle.controller.proofs.Validity.{cq-below, valid}
-use Rattle.controller.proofs.Written.{posts-to, postedMemory, writes, ring-posted, ring-kept}
-use Rattle.controller.proofs.Phase.{post, waiting-length}
+use Rattle.controller.proofs.Written.{posts-to, ring-posted, ring-kept}
 use Rattle.controller.proofs.Account.{bookCommand, Account, World, Next, agree-set, account-kept}
 use Rattle.controller.proofs.Booked.{this-or-other, account-this, account-other}
 
@@ -65,7 +67,8 @@ module _ (ks : List Command) (second status : ℕ) where
           let k = b .commands u in
           withCommand b u (record { sq = k .sq; cid = k .cid; verdict = bookStatus (k .verdict) 0x09; second = k .second })
 
-      go : (z s : Bool) → eqb second 0 ≡ z → (t : ℕ) → pick z b (pick s b failed) .commands t ≡ bookCommand (getD (pick z ks (set ks u (x s))) t noCommand)
+      go : (z s : Bool) → eqb second 0 ≡ z → (t : ℕ)
+          → pick z b (pick s b failed) .commands t ≡ bookCommand (getD (pick z ks (set ks u (x s))) t noCommand)
       go true s e t = all t
       go false true e t = all t ∙ sym (set-same ks u (x true) noCommand bookCommand refl t)
       go false false e t =
@@ -77,7 +80,7 @@ module _ (ks : List Command) (second status : ℕ) where
 
 -- ---- the posting
 
-module _ (q : ℕ) {c : Controller} (b : Book) (m : List ℕ) (r : Reachable c) (w : World q c b m)
+module _ (q : ℕ) {c : Controller} (b : Book) (m : Memory) (vs : List ℕ) (r : Reachable c) (w : World q c b m vs)
     (inside : outside c (length m) ≡ false) (e : Completion) (within : Within e) where
   abbrev postedBook : ℕ → BookCq
   postedBook k = let y = b .cqs k in record { size = y .size; head = y .head; tag = y .tag; waiting = y .waiting ++ (e ∷ []) }
@@ -85,7 +88,7 @@ module _ (q : ℕ) {c : Controller} (b : Book) (m : List ℕ) (r : Reachable c) 
   abbrev Posted : ℕ → Type 0
   Posted k =
       cqAt c k .ring .exists ≡ true → full (cqAt c k .ring) ≡ false
-      → Account (getD (set (c .cqs) k (posted (cqAt c k))) q noCq) (update (b .cqs) k (postedBook k) q) (postedMemory c m k e)
+      → Account (getD (set (c .cqs) k (posted (cqAt c k))) q noCq) (update (b .cqs) k (postedBook k) q) (postedMemory c m k e) vs
 
   post-this : Posted q
   unfolding full posted
@@ -93,31 +96,28 @@ module _ (q : ℕ) {c : Controller} (b : Book) (m : List ℕ) (r : Reachable c) 
       let x = cqAt c q .ring in
       let z = w .account .queue here in
       let room : length (b .cqs q .waiting) + 1 < x .size =
-      omega (arith, waiting-length _ _ _ _ _ _ _ (z .phase), z .phase .room, eqb-false (distance (x .size) (x .head) (x .tail)) (x .size - 1) free) in
-      account-this q (c .cqs) (b .cqs) (postedMemory c m q e) (posted (cqAt c q)) (postedBook q) (omega (arith, valid r .cqs-16, cq-below (valid r) here))
+      omega (arith, waiting-length (z .phase), z .phase .room, eqb-false (distance (x .size) (x .head) (x .tail)) (x .size - 1) free) in
+      account-this q (c .cqs) (b .cqs) (postedMemory c m q e) vs (posted (cqAt c q)) (postedBook q)
+      (omega (arith, valid r .cqs-16, cq-below (valid r) here))
       (record {
         unborn = λ a. absurd (clash here a);
         queue = λ a. record {
           size-same = z .size-same;
           head-same = z .head-same;
-          phase = rw (ring-posted r m inside e q here) (post _ _ _ _ _ _ _ (z .phase) e within room);
+          phase = rw (ring-posted r m inside e q here) (post (z .phase) e within room);
         };
+        stands = w .account .stands;
       })
 
   post-other : (k : ℕ) → (k ≡ q → ⊥) → Posted k
   post-other k n here free =
-      account-other q (c .cqs) (b .cqs) (postedMemory c m k e) (posted (cqAt c k)) (postedBook k) k n
+      account-other q (c .cqs) (b .cqs) (postedMemory c m k e) vs (posted (cqAt c k)) (postedBook k) k n
       (account-kept (ring-kept r m inside e k here q n) (w .account))
 
   post-any : (k : ℕ) → Posted k
   post-any k = this-or-other Posted q k post-this (post-other k)
 
--- a posting moves no head and turns no reader's tag
-update-same : {A B : Type 0} (g : A → B) (f : ℕ → A) (k : ℕ) (v : A) → g v ≡ g (f k) → (i : ℕ) → g (update f k v i) ≡ g (f i)
-update-same g f k v e i =
-    ⊎-elim (λ (p : i ≡ k). rw (eq-eqb i k p) (e ∙ ap (λ (j : ℕ). g (f j)) (sym p))) (λ (n : i ≡ k → ⊥). rw (ne-eqb i k n)) (same-or-not i k)
-
-module _ (q : ℕ) {c : Controller} (b : Book) (m : List ℕ) (r : Reachable c) (w : World q c b m)
+module _ (q : ℕ) {c : Controller} (b : Book) (m : Memory) (vs : List ℕ) (r : Reachable c) (w : World q c b m vs)
     (tag status result : ℕ) (bound : result < 2 ^ 32) (f : Finishable c (length m) tag status) where
   abbrev k : Command
   k = commandAt c tag
@@ -148,26 +148,18 @@ module _ (q : ℕ) {c : Controller} (b : Book) (m : List ℕ) (r : Reachable c) 
         status = status-in (k .verdict) (valid r .command-ok tag .verdict-low);
       }
 
-  pub next-finish : Next q b m (finish tag status result)
-      (record {
-        answer = finished (cqAt c id .ring .tail);
-        controller = finishedController c tag (statusOf (k .verdict) status);
-        memory = finishMemory c m tag status result;
-      })
+  pub next-finish : Next q b m vs (finish tag status result)
+      (outcome (finished (record { slot = cqAt c id .ring .tail })) (finishedController c tag (statusOf (k .verdict) status))
+      (postedMemory c m id e))
   unfolding enter finishedController
   next-finish =
       let status′ = statusOf (k .verdict) status in
       let kept = fail-keeps (waits b id e) (k .second) status′ in
-      record {
-        world = rw enters (record {
-          sqs = λ i. rw (kept .0) (w .sqs i);
-          commands = fail-agrees (c .commands) (k .second) status′ (waits b id e) (valid r .commands-64) (valid r .command-ok tag .second-low) (w .commands);
-          cids = unlinked-cids (c .commands) (k .second) status′ (w .cids);
-          account =
-              rw (kept .1, writes c m tag status result (f .accepted))
-              (post-any q b m r w (f .inside) e within id (posts-to (valid r) tag (f .out)) (f .room));
-        });
-        place = λ ring size vs.
-            rw (enters, kept .1)
-            (ap₂ (λ (h t : ℕ). readFrom ring size h t vs) (sym (update-same (λ y. y .head) (b .cqs) id _ refl q)) (sym (update-same (λ y. y .tag) (b .cqs) id _ refl q)));
-      }
+      rw enters (record {
+        sqs = λ i. rw (kept .0) (w .sqs i);
+        commands =
+            fail-agrees (c .commands) (k .second) status′ (waits b id e) (valid r .commands-64) (valid r .command-ok tag .second-low)
+            (w .commands);
+        cids = unlinked-cids (c .commands) (k .second) status′ (w .cids);
+        account = rw (kept .1) (post-any q b m vs r w (f .inside) e within id (posts-to (valid r) tag (f .out)) (f .room));
+      })

@@ -18,20 +18,20 @@ use Rattle.arbiter.proofs.Choice.{Within, named, nobody}
 use Rattle.controller.specs.declared.Controller.{Controller}
 use Rattle.controller.specs.State.{sqAt}
 use Rattle.controller.specs.Valid.{Valid}
-use Rattle.controller.specs.Starting.{candidate, candidates, ofClass}
+use Rattle.controller.specs.Starting.{candidateAt, classAt, candidates}
 
 abbrev pub Candidate : Controller → ℕ → Type 0
-Candidate c i = (i < 16) × (candidate (sqAt c i) ≡ true)
+Candidate c i = (i < 16) × (candidateAt c i ≡ true)
 
 module _ (c : Controller) where
-  of-class : (k i : ℕ) → isSet (ofClass c k) i ≡ true → Candidate c i
-  of-class k i e = let h = mask-set (λ i. candidate (sqAt c i) && eqb (sqAt c i .class) k) 16 i e in (h .0, and-true _ _ (h .1) .0)
+  of-class : (k i : ℕ) → isSet (maskOf (classAt c k) 16) i ≡ true → Candidate c i
+  of-class k i e = let h = mask-set (classAt c k) 16 i e in (h .0, and-true _ _ (h .1) .0)
 
   candidates-within : Within (Candidate c) (candidates c)
   unfolding candidates
   candidates-within =
       record {
-        all = mask-set (λ i. candidate (sqAt c i)) 16;
+        all = mask-set (candidateAt c) 16;
         urgent = of-class 0;
         high = of-class 1;
         medium = of-class 2;
@@ -43,29 +43,33 @@ module _ (c : Controller) where
 
 -- "no SQ is a candidate"
 abbrev pub NoCandidate : Controller → Type 0
-NoCandidate c = (i : ℕ) → i < 16 → candidate (sqAt c i) ≡ false
+NoCandidate c = (i : ℕ) → i < 16 → candidateAt c i ≡ false
 
 module _ (c : Controller) (v : Valid c) where
   abbrev everyone : ℕ
-  everyone = maskOf (λ i. candidate (sqAt c i)) 16
+  everyone = maskOf (candidateAt c) 16
+
+  abbrev ofClass : ℕ → ℕ
+  ofClass k = maskOf (classAt c k) 16
 
   -- a class has a candidate
   abbrev waits : ℕ → Bool
-  waits k = some (isSet (ofClass c k))
+  waits k = some (isSet (ofClass k))
 
-  class-is : (k i : ℕ) → i < 16 → isSet (ofClass c k) i ≡ (candidate (sqAt c i) && eqb (sqAt c i .class) k)
-  class-is k i l = mask-is (λ j. candidate (sqAt c j) && eqb (sqAt c j .class) k) 16 i l
+  class-is : (k i : ℕ) → i < 16 → isSet (ofClass k) i ≡ classAt c k i
+  class-is k i l = mask-is (classAt c k) 16 i l
 
-  of-empty : (k i : ℕ) → i < 16 → sqAt c i .class ≡ k → waits k ≡ false → candidate (sqAt c i) ≡ false
-  of-empty k i l e n = left _ _ (eq-eqb (sqAt c i .class) k e) (sym (class-is k i l) ∙ none-some 16 (isSet (ofClass c k)) n i l)
+  of-empty : (k i : ℕ) → i < 16 → sqAt c i .class ≡ k → waits k ≡ false → candidateAt c i ≡ false
+  of-empty k i l e n = left _ _ (eq-eqb (sqAt c i .class) k e) (sym (class-is k i l) ∙ none-some 16 (isSet (ofClass k)) n i l)
     where
       left : (a b : Bool) → b ≡ true → (a && b) ≡ false → a ≡ false
       left true b y z = absurd (clash y z)
       left false b y z = refl
 
   -- every class is 0 to 3
-  by-class : (i : ℕ) → i < 16 → (k : ℕ) → sqAt c i .class ≡ k → k ≤ 3 → waits 0 ≡ false → waits 1 ≡ false → waits 2 ≡ false → waits 3 ≡ false
-      → candidate (sqAt c i) ≡ false
+  by-class : (i : ℕ) → i < 16 → (k : ℕ) → sqAt c i .class ≡ k → k ≤ 3 → waits 0 ≡ false → waits 1 ≡ false → waits 2 ≡ false
+      → waits 3 ≡ false
+      → candidateAt c i ≡ false
   by-class i l zero e h p q r s = of-empty 0 i l e p
   by-class i l (suc zero) e h p q r s = of-empty 1 i l e q
   by-class i l (suc (suc zero)) e h p q r s = of-empty 2 i l e r
@@ -82,15 +86,15 @@ module _ (c : Controller) (v : Valid c) where
       let z = or-false (waits 1 || waits 2) (waits 3) (x .1) in
       let u = or-false (waits 1) (waits 2) (z .0) in
       by-class i l (sqAt c i .class) refl (v .sq-class i) (y .1) (u .0) (u .1) (z .1)
-  nobody-none false e i l = sym (mask-is (λ j. candidate (sqAt c j)) 16 i l) ∙ none-some 16 (isSet everyone) e i l
+  nobody-none false e i l = sym (mask-is (candidateAt c) 16 i l) ∙ none-some 16 (isSet everyone) e i l
 
   none-waits : NoCandidate c → (k : ℕ) → waits k ≡ false
-  none-waits n k = some-none 16 (isSet (ofClass c k)) (λ i l. class-is k i l ∙ ap (λ (b : Bool). b && eqb (sqAt c i .class) k) (n i l))
+  none-waits n k = some-none 16 (isSet (ofClass k)) (λ i l. class-is k i l ∙ ap (λ (b : Bool). b && eqb (sqAt c i .class) k) (n i l))
 
   none-nobody : (w : Bool) → NoCandidate c → Looked w
   none-nobody true n =
-      rw (mask-is (λ j. candidate (sqAt c j)) 16 0 (lit< tt), n 0 (lit< tt), none-waits n 0, none-waits n 1, none-waits n 2, none-waits n 3) refl
-  none-nobody false n = some-none 16 (isSet everyone) (λ i l. mask-is (λ j. candidate (sqAt c j)) 16 i l ∙ n i l)
+      rw (mask-is (candidateAt c) 16 0 (lit< tt), n 0 (lit< tt), none-waits n 0, none-waits n 1, none-waits n 2, none-waits n 3) refl
+  none-nobody false n = some-none 16 (isSet everyone) (λ i l. mask-is (candidateAt c) 16 i l ∙ n i l)
 
   -- the arbiter names nobody, and the answer is 12, exactly if no SQ is a candidate
   pub nobody-waits : (choice (c .arbiter) (candidates c) ≡ Nobody) ↔ NoCandidate c

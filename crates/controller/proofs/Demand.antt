@@ -1,6 +1,6 @@
 -- DEMAND 3, over any list of calls: the reader finds exactly what was posted and not yet released. Assumes nothing.
-use Prim.Native.Nat.{ℕ, _*_}
-use mathlib.Core.List.{List, [], _∷_}
+use Prim.Native.Nat.{ℕ, _*_, _<_, _^_}
+use mathlib.Core.List.{List, [], _∷_, foldl}
 use mathlib.Core.Path.{_≡_, refl, sym, ap, _∙_}
 use native.Mathlib.Nat.{mod-eq-of-lt}
 use native.Mathlib.Omega.{arith}
@@ -8,55 +8,52 @@ use lib.ListN.{length}
 use borrow.Author.Tests.{le-ltb, lt-leb}
 use Rattle.rules.proofs.Tests.{in-range}
 use Rattle.rules.proofs.Tables.{settle-accepted}
-use Rattle.le.specs.Memory.{Bytes}
+use Rattle.le.specs.Memory.{Memory, Bytes}
 use Rattle.ring.specs.Reader.{readSlots, found, readerRefusal, ringRead}
+use Rattle.ring.proofs.Phase.{counts, finds, reader-tag-in}
 use Rattle.ring.specs.declared.reader.Waiting.the-variants.{Count, Refused}
 use Rattle.controller.specs.declared.Controller.{Controller}
 use Rattle.controller.specs.State.{cqAt, freshController}
-use Rattle.controller.specs.Calls.{Call, Outcome, Reachable, fresh, after}
+use Rattle.controller.specs.Answers.{Outcome}
+use Rattle.controller.specs.Calls.{Call, resultOf, Reachable, fresh, after}
+use Rattle.controller.specs.Steps.{Given, steps, final}
 use Rattle.controller.specs.Valid.{RingOk}
 use Rattle.controller.specs.Book.{Book, empty}
-use Rattle.controller.specs.Demand.{Given, final, booked, heads, readFrom, reader, Clean, TypedCall, Typed, History, ringBytes, sizeOf, headWrites, unreleased, bookHead, bookTag}
-use Rattle.controller.proofs.Made.{Made, refuses, marks, creates-cq, creates-sq, moves-tail, moves-head, takes-one, takes-pair, finishes, made}
+use Rattle.controller.specs.Demand.{booked, headsOn, heads, reader, Cleared, Clean, Typed, History, ringBytes, sizeOf, headWrites}
+use Rattle.controller.specs.Demand.{unreleased, bookHead, bookTag}
+use Rattle.controller.proofs.Made.{takes-one, takes-pair, finishes, Made, refuses, marks, creates-cq, creates-sq, moves-tail}
+use Rattle.controller.proofs.Made.{moves-head, commands, made}
+use Rattle.controller.proofs.Steps.{reached}
 use Rattle.controller.proofs.Validity.{valid}
-use Rattle.controller.proofs.Phase.{counts, finds, reader-tag-in}
-use Rattle.controller.proofs.Account.{Queue, World, Next, world-fresh, kept}
-use Rattle.controller.proofs.Booked.{ClearIn, next-refused, next-tail, next-create-sq, next-create-cq, next-head}
+use Rattle.controller.proofs.Account.{Queue, placeOf, World, Next, world-fresh, kept}
+use Rattle.controller.proofs.Booked.{next-refused, next-marked, next-tail, next-create-sq, next-create-cq, next-head}
 use Rattle.controller.proofs.BookedStart.{next-one, next-pair}
 use Rattle.controller.proofs.BookedFinish.{next-finish}
 
 -- ---- over the calls
 
-module _ {q : ℕ} {c : Controller} {b : Book} {m : List ℕ} (r : Reachable c) (w : World q c b m) (bytes : Bytes m) where
+module _ {q : ℕ} {c : Controller} {b : Book} {m : Memory} {vs : List ℕ} (r : Reachable c) (w : World q c b m vs) (bytes : Bytes m) where
   -- each call keeps the book and the controller in agreement
-  next-call : {call : Call} {o : Outcome} → Made c m call o → TypedCall call → ClearIn q m c (o .controller) → Next q b m call o
-  next-call (refuses call n) t z = next-refused q c b m (valid r) w call n
-  next-call (marks id v g e) t z = next-tail q c b m (valid r) w id v _ _ refl
-  next-call (creates-cq id size base g) t z = next-create-cq q c b m (valid r) w id size base g z
-  next-call (creates-sq id size base cq class g) t z = next-create-sq q c b m (valid r) w id size base cq class (g .id-low)
-  next-call (moves-tail id v g e) t z = next-tail q c b m (valid r) w id v _ _ refl
-  next-call (moves-head id v g) t z = next-head q c b m (valid r) w id v g
-  next-call (takes-one id a n left g e o) t z = next-one q c b m (valid r) w bytes id a (g .candidate .0) _ n left (o .low)
-  next-call (takes-pair id a n u left g e o) t z = next-pair q c b m (valid r) w bytes id a (g .candidate .0) _ n u left (o .first .low) (o .second .low)
-  next-call (finishes tag status result g) t z = next-finish q b m r w tag status result t g
+  next-call : {call : Call} {o : Outcome} → Made c m call o → resultOf call < 2 ^ 32 → Cleared q m c (o .controller) → Next q b m vs call o
+  next-call (refuses call n) t z = next-refused q c b m vs (valid r) w call n
+  next-call (marks id v g e) t z = next-marked q c b m vs (valid r) w id v
+  next-call (creates-cq id size base g) t z = next-create-cq q c b m vs (valid r) w id size base g z
+  next-call (creates-sq id size base cq class g) t z = next-create-sq q c b m vs (valid r) w id size base cq class (g .id-low)
+  next-call (moves-tail id v g e) t z = next-tail q c b m vs (valid r) w id v
+  next-call (moves-head id v g) t z = next-head q c b m vs (valid r) w id v g
+  next-call (commands (takes-one id a n left g e o)) t z = next-one q c b m vs (valid r) w bytes id a (g .candidate .0) _ n left (o .low)
+  next-call (commands (takes-pair id a n u left g e o)) t z =
+      next-pair q c b m vs (valid r) w bytes id a (g .candidate .0) _ n u left (o .first .low) (o .second .low)
+  next-call (commands (finishes tag status result g)) t z = next-finish q b m vs r w tag status result t g
 
--- how a list of calls ends: in agreement, and with the reader, from the accepted head writes alone, where the book has it
-record Ends (q : ℕ) (c : Controller) (b : Book) (gs : List Given) (seen : List ℕ) : Type 0 where
-  world : World q (final c gs) (booked c b gs) seen
-  place : (ring : List ℕ) (size : ℕ)
-      → readFrom ring size (b .cqs q .head) (b .cqs q .tag) (heads q c gs) ≡ found ring size (booked c b gs .cqs q .head) (booked c b gs .cqs q .tag)
-
-all-calls : (q : ℕ) (gs : List Given) {c : Controller} {b : Book} {left : List ℕ} (seen : List ℕ)
-    → Reachable c → World q c b left → Typed gs → Clean q c left gs seen → Ends q c b gs seen
-all-calls q [] seen r w t k = record { world = kept k w; place = λ ring size. refl }
+-- after the calls they agree
+all-calls : (q : ℕ) (gs : List Given) {c : Controller} {b : Book} {left : Memory} {vs : List ℕ} (seen : Memory)
+    → Reachable c → World q c b left vs → Typed gs → Clean q c left (steps c gs) seen
+    → World q (final c gs) (booked c b gs) seen (foldl (λ us s. headsOn q us (s .given .call) (s .outcome .answer)) vs (steps c gs))
+all-calls q [] seen r w t k = kept k w
 all-calls q (g ∷ gs) seen r w t k =
-    let n = next-call r (kept (k .0) w) (t .0) (made _ (g .memory) (valid r .free-64) (g .call)) (t .1) (k .1) in
-    let e = all-calls q gs seen (after r (g .memory) (g .call)) (n .world) (t .2) (k .2) in
-    record { world = e .world; place = λ ring size. n .place ring size _ ∙ e .place ring size }
-
-pub reached : (gs : List Given) {c : Controller} → Reachable c → Reachable (final c gs)
-reached [] r = r
-reached (g ∷ gs) r = reached gs (after r (g .memory) (g .call))
+    all-calls q gs seen (after r (g .memory) (g .call))
+    (next-call r (kept (k .0) w) (t .0) (made _ (g .memory) (valid r .free-64) (g .call)) (t .1) (k .1)) (t .2) (k .2)
 
 -- ---- of a history
 
@@ -67,16 +64,18 @@ module _ (h : History) where
   pub reachable : Reachable last
   reachable = reached (h .calls) (fresh (h .weighted) (h .word))
 
-  ends : Ends (h .q) (freshController (h .weighted) (h .word)) empty (h .calls) (h .seen)
-  ends = all-calls (h .q) (h .calls) (h .seen) (fresh (h .weighted) (h .word)) (world-fresh (h .weighted) (h .word) (h .q) []) (h .typed) (h .clean)
+  agrees : World (h .q) last (booked (freshController (h .weighted) (h .word)) empty (h .calls)) (h .seen) (headWrites h)
+  agrees =
+      all-calls (h .q) (h .calls) (h .seen) (fresh (h .weighted) (h .word)) (world-fresh (h .weighted) (h .word) (h .q) []) (h .typed)
+      (h .clean)
 
   pub queue : Queue (cqAt last (h .q)) (booked (freshController (h .weighted) (h .word)) empty (h .calls) .cqs (h .q)) (h .seen)
-  queue = ends .world .account .queue (h .exists)
+  queue = agrees .account .queue (h .exists)
 
   -- DEMAND 3, its first half: from the ring's bytes, its size and its accepted head writes alone, "each once, in order, field for field"
   pub demand3 : reader (ringBytes h) (sizeOf h) (headWrites h) ≡ unreleased h
   unfolding reader
-  demand3 = ends .place _ _ ∙ rw (queue .head-same) (finds _ _ _ _ _ _ _ (queue .phase))
+  demand3 = rw (agrees .account .stands, queue .head-same) (finds (queue .phase))
 
   -- the completion reader refuses nothing here
   accepts : readerRefusal (length (ringBytes h)) (sizeOf h) (bookHead h) ≡ 0
@@ -93,13 +92,14 @@ module _ (h : History) where
   unfolding ringRead
   demand3-count =
       settle-accepted _ Refused _ accepts
-      ∙ ap Count (rw (mod-eq-of-lt (reader-tag-in _ _ _ _ _ _ _ (queue .phase)), queue .head-same) (counts _ _ _ _ _ _ _ (queue .phase)))
+      ∙ ap Count (rw (mod-eq-of-lt (reader-tag-in (queue .phase)), queue .head-same) (counts (queue .phase)))
 
   pub demand3-slots : readSlots (length (unreleased h)) (ringBytes h) (sizeOf h) (bookHead h) ≡ unreleased h
   demand3-slots = rw (queue .head-same) (queue .phase .slots)
 
 -- DEMAND 3, its second half: "different unreleased completions mean different bytes"
-pub demand3-apart : (x y : History) → sizeOf x ≡ sizeOf y → headWrites x ≡ headWrites y → (unreleased x ≡ unreleased y → ⊥) → ringBytes x ≡ ringBytes y → ⊥
+pub demand3-apart : (x y : History) → sizeOf x ≡ sizeOf y → headWrites x ≡ headWrites y → (unreleased x ≡ unreleased y → ⊥)
+    → ringBytes x ≡ ringBytes y → ⊥
 demand3-apart x y size heads differ bytes =
     let same : reader (ringBytes x) (sizeOf x) (headWrites x) ≡ reader (ringBytes y) (sizeOf y) (headWrites y) = cc in
     differ (sym (demand3 x) ∙ same ∙ demand3 y)

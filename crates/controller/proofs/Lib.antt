@@ -2,14 +2,13 @@ pub mod Lists
 pub mod Outstanding
 pub mod Choosing
 pub mod Made
+pub mod Steps
 pub mod Unlinked
 pub mod Validity
 pub mod Unserved
 pub mod Submitted
 pub mod Links
 pub mod Apart
-pub mod Posting
-pub mod Phase
 pub mod Written
 pub mod Account
 pub mod Booked
@@ -20,3 +19,4 @@ pub mod Unread
 pub mod Undisturbed
 pub mod ThreePasses
 pub mod Reaches
+pub mod Settled

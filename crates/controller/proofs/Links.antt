@@ -1,4 +1,5 @@
--- Refusal 16 is about the command that is the first half, not about its tag number: `first` of a command names a tag exactly while its first half is outstanding there. Assumes nothing.
+-- Refusal 16 is about the command that is the first half, not about its tag number: `first` of a command names a tag exactly while
+-- its first half is outstanding there. Assumes nothing.
 use Prim.Native.Nat.{ℕ, _+_, _-_, _≤_}
 use mathlib.Core.Bool.{true, false}
 use mathlib.Core.List.{List}
@@ -10,16 +11,19 @@ use lib.Seq.{getD-set-same, getD-set-other}
 use Rattle.rules.proofs.Tests.{same-or-not, clash}
 use Rattle.bits.specs.Tags.{givenBack}
 use Rattle.bits.proofs.Tags.{OneTaken, TwoTaken}
+use Rattle.le.specs.Memory.{Memory}
 use Rattle.controller.specs.declared.Command.{Command}
 use Rattle.controller.specs.declared.Controller.{Controller}
 use Rattle.controller.specs.State.{noCommand, commandAt, outstanding}
 use Rattle.controller.specs.Valid.{Valid}
 use Rattle.controller.specs.Starting.{oneTaken, pairTaken}
 use Rattle.controller.specs.Finishing.{unlinked, finishedController}
-use Rattle.controller.specs.Calls.{Call, finish, Outcome, perform, Reachable, fresh, after}
+use Rattle.controller.specs.Answers.{Outcome}
+use Rattle.controller.specs.Calls.{Call, finish, perform, Reachable, fresh, after}
 use Rattle.controller.proofs.Outstanding.{out-set, taken-out, taken-new, taken-other, back-gone, back-out}
 use Rattle.controller.proofs.Unlinked.{unlinked-sq, unlinked-second, unlinked-other, unlinked-first}
-use Rattle.controller.proofs.Made.{Made, refuses, marks, creates-cq, creates-sq, moves-tail, moves-head, takes-one, takes-pair, finishes, made}
+use Rattle.controller.proofs.Made.{takes-one, takes-pair, finishes, Commands, refused-leaves, done-leaves, changes, of-commands}
+use Rattle.controller.proofs.Made.{made}
 use Rattle.controller.proofs.Validity.{none-out, valid}
 
 -- the commands of t and u are the two halves of a pair, both outstanding, and each names the other
@@ -47,7 +51,8 @@ alone ks free e a b = record { up = λ t h. never t (rw e a) h; down = λ u h. n
 
 -- ---- commands are added: the tags that were outstanding are so, with the same commands
 
-module _ (ks ls : List Command) (f g : ℕ) (kept : (x : ℕ) → outstanding f x ≡ true → (outstanding g x ≡ true) × (getD ls x noCommand ≡ getD ks x noCommand)) where
+module _ (ks ls : List Command) (f g : ℕ)
+    (kept : (x : ℕ) → outstanding f x ≡ true → (outstanding g x ≡ true) × (getD ls x noCommand ≡ getD ks x noCommand)) where
   halves-kept : {t u : ℕ} → Halves ks f t u → Halves ls g t u
   halves-kept {t} {u} h =
       let a = kept t (h .first-out) in
@@ -164,22 +169,20 @@ module _ (ks : List Command) (f tag status : ℕ) (n : length ks ≡ 64) (o : ou
 abbrev LinkedIn : Controller → Type 0
 LinkedIn c = Linked (c .commands) (c .free)
 
-linked-kept : {c : Controller} {m : List ℕ} {call : Call} {o : Outcome} → Valid c → LinkedIn c → Made c m call o → LinkedIn (o .controller)
+linked-kept : {c : Controller} {m : Memory} {call : Call} {o : Outcome} → Valid c → LinkedIn c → Commands c m call o
+    → LinkedIn (o .controller)
 unfolding oneTaken pairTaken finishedController
-linked-kept v l (refuses call n) = l
-linked-kept v l (marks id x r e) = l
-linked-kept v l (creates-cq id size base r) = l
-linked-kept v l (creates-sq id size base cq class r) = l
-linked-kept v l (moves-tail id x r e) = l
-linked-kept v l (moves-head id x r) = l
-linked-kept {c} v l (takes-one id a t left s e w) = one-linked (c .commands) _ (v .commands-64) w refl refl l
-linked-kept {c} v l (takes-pair id a t u left s e w) = pair-linked (c .commands) _ _ (v .commands-64) w refl refl refl refl refl l
-linked-kept {c} v l (finishes tag status result r) =
+linked-kept v l (refused-leaves call n xs) = l
+linked-kept v l (done-leaves call xs ys) = l
+linked-kept {c} v l (changes (takes-one id a t left s e w)) = one-linked (c .commands) _ (v .commands-64) w refl refl l
+linked-kept {c} v l (changes (takes-pair id a t u left s e w)) =
+    pair-linked (c .commands) _ _ (v .commands-64) w refl refl refl refl refl l
+linked-kept {c} v l (changes (finishes tag status result r)) =
     finish-linked (c .commands) (c .free) tag _ (v .commands-64) (r .out) (r .no-first) (v .command-ok tag .second-low) l
 
 pub linked : {c : Controller} → Reachable c → Linked (c .commands) (c .free)
 linked (fresh weighted word) = λ x o. absurd (none-out x o)
-linked (after {c} r m call) = linked-kept (valid r) (linked r) (made c m (valid r .free-64) call)
+linked (after {c} r m call) = linked-kept (valid r) (linked r) (of-commands (made c m (valid r .free-64) call))
 
 -- ---- what a reader may take from it
 
@@ -208,18 +211,17 @@ pub record FirstFinished (call : Call) (before left : ℕ) : Type 0 where
 
 -- one call, by cases
 module _ {c : Controller} (v : Valid c) (l : LinkedIn c) (u : ℕ) (p : outstanding (c .free) u ≡ true) where
-  first-kept : {m : List ℕ} {call : Call} {o : Outcome} → Made c m call o → outstanding (o .controller .free) u ≡ true
-      → (commandAt (o .controller) u .first ≡ commandAt c u .first) ⊎ FirstFinished call (commandAt c u .first) (commandAt (o .controller) u .first)
+  first-kept : {m : Memory} {call : Call} {o : Outcome} → Commands c m call o → outstanding (o .controller .free) u ≡ true
+      → (commandAt (o .controller) u .first ≡ commandAt c u .first) ⊎ FirstFinished call (commandAt c u .first)
+      (commandAt (o .controller) u .first)
   unfolding oneTaken pairTaken finishedController
-  first-kept (refuses call n) q = inl refl
-  first-kept (marks id x r e) q = inl refl
-  first-kept (creates-cq id size base r) q = inl refl
-  first-kept (creates-sq id size base cq class r) q = inl refl
-  first-kept (moves-tail id x r e) q = inl refl
-  first-kept (moves-head id x r) q = inl refl
-  first-kept (takes-one id a t left s e w) q = inl (ap (λ (k : Command). k .first) (getD-set-other (c .commands) t u _ noCommand (taken-new w u p)))
-  first-kept (takes-pair id a t x left s e w) q = inl (ap (λ (k : Command). k .first) (others-kept (c .commands) _ _ (v .commands-64) w refl refl refl refl refl u p .1))
-  first-kept (finishes tag status result r) q =
+  first-kept (refused-leaves call n xs) q = inl refl
+  first-kept (done-leaves call xs ys) q = inl refl
+  first-kept (changes (takes-one id a t left s e w)) q =
+      inl (ap (λ (k : Command). k .first) (getD-set-other (c .commands) t u _ noCommand (taken-new w u p)))
+  first-kept (changes (takes-pair id a t x left s e w)) q =
+      inl (ap (λ (k : Command). k .first) (others-kept (c .commands) _ _ (v .commands-64) w refl refl refl refl refl u p .1))
+  first-kept (changes (finishes tag status result r)) q =
       ⊎-elim
       (λ (e : commandAt c tag .second ≡ u + 1). inr (record {
         tag = tag;
@@ -232,9 +234,10 @@ module _ {c : Controller} (v : Valid c) (l : LinkedIn c) (u : ℕ) (p : outstand
       (λ d. inl (ap (λ (k : Command). k .first) (unlinked-other (c .commands) _ _ u d)))
       (same-or-not (commandAt c tag .second) (u + 1))
 
--- While a command is outstanding, a call changes its `first` only by finishing the command named there: from then on it is 0, whoever takes the tag.
-pub until-finished : {c : Controller} → Reachable c → (m : List ℕ) (call : Call) (u : ℕ) → outstanding (c .free) u ≡ true
+-- While a command is outstanding, a call changes its `first` only by finishing the command named there: from then on it is 0,
+-- whoever takes the tag.
+pub until-finished : {c : Controller} → Reachable c → (m : Memory) (call : Call) (u : ℕ) → outstanding (c .free) u ≡ true
     → outstanding (perform c m call .controller .free) u ≡ true
     → (commandAt (perform c m call .controller) u .first ≡ commandAt c u .first)
     ⊎ FirstFinished call (commandAt c u .first) (commandAt (perform c m call .controller) u .first)
-until-finished {c} r m call u p = first-kept (valid r) (linked r) u p (made c m (valid r .free-64) call)
+until-finished {c} r m call u p = first-kept (valid r) (linked r) u p (of-commands (made c m (valid r .free-64) call))

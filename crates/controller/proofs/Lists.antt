@@ -10,9 +10,11 @@ use Rattle.rules.proofs.Tests.{lt-or-ge, same-or-not, clash}
 
 module _ {A : Type 0} (l : List A) (k : ℕ) (v d : A) where
   -- what holds at k of the new value, and elsewhere of the old ones, holds of the list with k set
-  pub set-ind : (P : ℕ → A → Type 0) → k < length l → P k v → ((i : ℕ) → (i ≡ k → ⊥) → P i (getD l i d)) → (i : ℕ) → P i (getD (set l k v) i d)
+  pub set-ind : (P : ℕ → A → Type 0) → k < length l → P k v → ((i : ℕ) → (i ≡ k → ⊥) → P i (getD l i d)) → (i : ℕ)
+      → P i (getD (set l k v) i d)
   set-ind P h p f i =
-      ⊎-elim (λ (e : i ≡ k). rw e (rw (getD-set-same l k v d h) p)) (λ (n : i ≡ k → ⊥). rw (getD-set-other l k i v d n) (f i n)) (same-or-not i k)
+      ⊎-elim (λ (e : i ≡ k). rw e (rw (getD-set-same l k v d h) p)) (λ (n : i ≡ k → ⊥). rw (getD-set-other l k i v d n) (f i n))
+      (same-or-not i k)
 
   -- what holds of every old value and of the new one
   pub set-all : (P : A → Type 0) → k < length l → P v → ((i : ℕ) → P (getD l i d)) → (i : ℕ) → P (getD (set l k v) i d)
@@ -30,7 +32,8 @@ module _ {A : Type 0} (l : List A) (k : ℕ) (v d : A) where
 -- an element that passes a test that the default fails stands in the list
 pub in-list : {A : Type 0} (l : List A) (i : ℕ) (d : A) (p : A → Bool) → p d ≡ false → p (getD l i d) ≡ true → i < length l
 in-list l i d p n y =
-    ⊎-elim (λ (h : i < length l). h) (λ (h : length l ≤ i). absurd (clash y (ap p (List·getD-eq-default l d h) ∙ n))) (lt-or-ge i (length l))
+    ⊎-elim (λ (h : i < length l). h) (λ (h : length l ≤ i). absurd (clash y (ap p (List·getD-eq-default l d h) ∙ n)))
+    (lt-or-ge i (length l))
 
 pub getD-same : {A : Type 0} (n i : ℕ) (a : A) → getD (replicate n a) i a ≡ a
 getD-same zero i a = refl

@@ -1,24 +1,21 @@
 -- What a call comes to, by cases: a refusal, or what the call does, with all that is then known. Assumes nothing.
 use Prim.Native.Nat.{ℕ, _+_, _*_, _%_, _^_, _≤_, _<_}
-use mathlib.Core.Bool.{true, false, not}
-use mathlib.Core.List.{List, [], _∷_}
-use mathlib.Core.Logic.{⊎-elim}
+use mathlib.Core.Bool.{true, false}
+use mathlib.Core.List.{List}
 use mathlib.Core.Path.{_≡_, refl}
 use native.Mathlib.Omega.{arith}
-use lib.Dec.{ltb}
 use lib.ListN.{length}
-use borrow.Author.Tests.{ltb-false, eqb-true, ne-eqb}
+use borrow.Author.Tests.{ltb-false, eqb-true}
 use Rattle.rules.specs.Rules.{firstMatch}
-use Rattle.rules.proofs.Tests.{or-false, not-no, range, same-or-not}
-use Rattle.rules.proofs.Tables.{Unapplied, passed, settle-accepted, settle-refused}
+use Rattle.rules.proofs.Tests.{or-false, not-no, range}
+use Rattle.rules.proofs.Tables.{Unapplied, passed}
 use Rattle.bits.specs.Tags.{takenOne, takenTwo}
 use Rattle.bits.specs.declared.TakenOne.{TakenOne}
 use Rattle.bits.specs.declared.TakenOne.the-variants.{Tag, NoneFree}
 use Rattle.bits.specs.declared.TakenTwo.{TakenTwo}
 use Rattle.bits.specs.declared.TakenTwo.the-variants.{Tags, TooFew}
 use Rattle.bits.proofs.Tags.{OneTaken, one-taken, TwoTaken, two-taken}
-use Rattle.entry.specs.declared.submission.Submission.{Submission}
-use Rattle.ring.specs.Slots.{next}
+use Rattle.le.specs.Memory.{Memory}
 use Rattle.arbiter.specs.Arbiter.{choice}
 use Rattle.arbiter.specs.declared.Arbiter.{Arbiter}
 use Rattle.arbiter.specs.declared.Chosen.{Chosen}
@@ -26,19 +23,21 @@ use Rattle.arbiter.specs.declared.Chosen.the-variants.{Queue, Nobody}
 use Rattle.controller.specs.declared.Controller.{Controller}
 use Rattle.controller.specs.declared.SubmissionQueue.{SubmissionQueue}
 use Rattle.controller.specs.declared.CompletionQueue.{CompletionQueue}
-use Rattle.controller.specs.declared.Start.{Start}
-use Rattle.controller.specs.State.{sqAt, cqAt, commandAt, outstanding, withSq, withCq, withHead, withTail, sqWithRing, cqWithRing, changed}
+use Rattle.controller.specs.State.{sqAt, cqAt, commandAt, outstanding, withQueues, withSq, withCq}
 use Rattle.controller.specs.Rings.{shares, outside}
+use Rattle.controller.specs.Answers.{refused, done, finished, Outcome, outcome}
 use Rattle.controller.specs.Create as create
-use Rattle.controller.specs.Create.{ringRules, createCqRules, createSqRules, createCqRefusal, createSqRefusal, newRing}
+use Rattle.controller.specs.Create.{ringRules, createCqRules, createSqRules, createCqRefusal, createSqRefusal, newCq, newSq}
 use Rattle.controller.specs.Doorbell as doorbell
-use Rattle.controller.specs.Doorbell.{validTail, validHead, tailRefusal, headRefusal, mark}
-use Rattle.controller.specs.Verdict.{verdictOne, verdictPair}
+use Rattle.controller.specs.Doorbell.{validTail, validHead, tailRules, tailRefusal, tailMoved, mark, headRules, headRefusal}
+use Rattle.controller.specs.Doorbell.{headMoved}
 use Rattle.controller.specs.Starting as starting
-use Rattle.controller.specs.Starting.{candidates, entryAt, isPair, used, oneTaken, pairTaken, withOne, withTwo, takeOne, takePair, takeFrom, refusedStart}
+use Rattle.controller.specs.Starting.{candidates, isPair, headEntry, nextEntry, oneVerdict, pairVerdict, oneTaken, pairTaken, withOne}
+use Rattle.controller.specs.Starting.{withTwo, takeOne, takePair, takeFrom, startRules}
 use Rattle.controller.specs.Finishing as finishing
-use Rattle.controller.specs.Finishing.{cqOf, full, finishRules, finishRefusal, statusOf, finishedController, finishMemory}
-use Rattle.controller.specs.Calls.{Call, createCq, createSq, tailWrite, headWrite, start, finish, Answer, refused, done, finished, Outcome, ofChanged, ofStart, perform}
+use Rattle.controller.specs.Finishing.{cqOf, full, finishRules, finishRefusal, statusOf, completionOf, finishedController}
+use Rattle.controller.specs.Finishing.{postedMemory}
+use Rattle.controller.specs.Calls.{Call, createCq, createSq, tailWrite, headWrite, start, finish, perform}
 use Rattle.rules.proofs.Cases.{pick-cases, settle-cases}
 use Rattle.controller.proofs.Choosing.{Candidate, chosen}
 
@@ -65,18 +64,18 @@ pub record NewSq (c : Controller) (n id size base cq class : ℕ) : Type 0 where
   pub ring : NewRing c n 64 size base
 
 -- the queue of a doorbell write
-pub record Rung (c : Controller) (id : ℕ) : Type 0 where
+pub record TakesTail (c : Controller) (id : ℕ) : Type 0 where
   pub id-low : id < 16
   pub here : sqAt c id .ring .exists ≡ true
   pub unmarked : sqAt c id .marked ≡ false
 
-pub record Read (c : Controller) (id v : ℕ) : Type 0 where
+pub record TakesHead (c : Controller) (id v : ℕ) : Type 0 where
   pub id-low : id < 16
   pub here : cqAt c id .ring .exists ≡ true
   pub valid : validHead (cqAt c id .ring) v ≡ true
 
 -- the queue that a start takes from
-pub record Served (c : Controller) (m : List ℕ) (id : ℕ) (a : Arbiter) : Type 0 where
+pub record Served (c : Controller) (m : Memory) (id : ℕ) (a : Arbiter) : Type 0 where
   pub inside : outside c (length m) ≡ false
   pub choice : choice (c .arbiter) (candidates c) ≡ Queue id a
   pub candidate : Candidate c id
@@ -89,57 +88,49 @@ pub record Finishable (c : Controller) (n tag status : ℕ) : Type 0 where
   pub no-first : commandAt c tag .first ≡ 0
   pub room : full (cqAt c (cqOf c tag) .ring) ≡ false
 
--- ---- the entries at the head of a queue, and their verdicts
-
-abbrev pub headEntry : Controller → List ℕ → ℕ → Submission
-headEntry c m id = entryAt m (sqAt c id .ring) (sqAt c id .ring .head)
-
-abbrev pub nextEntry : Controller → List ℕ → ℕ → Submission
-nextEntry c m id = entryAt m (sqAt c id .ring) (next (sqAt c id .ring .size) (sqAt c id .ring .head))
-
-abbrev pub oneVerdict : Controller → List ℕ → ℕ → ℕ
-oneVerdict c m id = let e = headEntry c m id in verdictOne id e (used c id e)
-
-abbrev pub pairVerdict : Controller → List ℕ → ℕ → ℕ
-pairVerdict c m id = let e = headEntry c m id in let f = nextEntry c m id in verdictPair e f (used c id e) (used c id f)
-
 -- ---- the cases
 
-abbrev outcome : Answer → Controller → List ℕ → Outcome
-outcome a c m = record { answer = a; controller = c; memory = m }
+-- a start, or a finish
+pub data CommandMade (c : Controller) (m : Memory) : Call → Outcome → Type 0 where
+  takes-one : (id : ℕ) (a : Arbiter) (t left : ℕ) → Served c m id a → isPair id (sqAt c id .ring) m ≡ false → OneTaken (c .free) t left
+      → CommandMade c m start (oneTaken c m id a (headEntry c m id) (oneVerdict c m id) t left)
+  takes-pair : (id : ℕ) (a : Arbiter) (t u left : ℕ) → Served c m id a → isPair id (sqAt c id .ring) m ≡ true → TwoTaken (c .free) t u left
+      → CommandMade c m start (pairTaken c m id a (headEntry c m id) (nextEntry c m id) (pairVerdict c m id) t u left)
+  finishes : (tag status result : ℕ) → Finishable c (length m) tag status
+      → CommandMade c m (finish tag status result)
+      (outcome (finished (record { slot = cqAt c (cqOf c tag) .ring .tail }))
+      (finishedController c tag (statusOf (commandAt c tag .verdict) status))
+      (postedMemory c m (cqOf c tag) (completionOf c tag status result)))
 
-abbrev pub newCq : ℕ → ℕ → CompletionQueue
-newCq size base = record { ring = newRing size base; phase = 1 }
-
-abbrev pub newSq : ℕ → ℕ → ℕ → ℕ → SubmissionQueue
-newSq size base cq class = record { ring = newRing size base; marked = false; cq = cq; class = class }
-
-abbrev pub tailMoved : SubmissionQueue → ℕ → SubmissionQueue
-tailMoved q v = sqWithRing q (withTail (q .ring) v)
-
-abbrev pub headMoved : CompletionQueue → ℕ → CompletionQueue
-headMoved q v = cqWithRing q (withHead (q .ring) v)
-
-pub data Made (c : Controller) (m : List ℕ) : Call → Outcome → Type 0 where
+pub data Made (c : Controller) (m : Memory) : Call → Outcome → Type 0 where
   refuses : (call : Call) (n : ℕ) → Made c m call (outcome (refused n) c m)
-  marks : (id v : ℕ) → Rung c id → validTail (sqAt c id .ring) v ≡ false
+  marks : (id v : ℕ) → TakesTail c id → validTail (sqAt c id .ring) v ≡ false
       → Made c m (tailWrite id v) (outcome (refused 10) (withSq c id (mark (sqAt c id))) m)
   creates-cq : (id size base : ℕ) → NewCq c (length m) id size base
       → Made c m (createCq id size base) (outcome done (withCq c id (newCq size base)) m)
   creates-sq : (id size base cq class : ℕ) → NewSq c (length m) id size base cq class
       → Made c m (createSq id size base cq class) (outcome done (withSq c id (newSq size base cq class)) m)
-  moves-tail : (id v : ℕ) → Rung c id → validTail (sqAt c id .ring) v ≡ true
+  moves-tail : (id v : ℕ) → TakesTail c id → validTail (sqAt c id .ring) v ≡ true
       → Made c m (tailWrite id v) (outcome done (withSq c id (tailMoved (sqAt c id) v)) m)
-  moves-head : (id v : ℕ) → Read c id v
+  moves-head : (id v : ℕ) → TakesHead c id v
       → Made c m (headWrite id v) (outcome done (withCq c id (headMoved (cqAt c id) v)) m)
-  takes-one : (id : ℕ) (a : Arbiter) (t left : ℕ) → Served c m id a → isPair id (sqAt c id .ring) m ≡ false → OneTaken (c .free) t left
-      → Made c m start (ofStart m (oneTaken c id a (headEntry c m id) (oneVerdict c m id) t left))
-  takes-pair : (id : ℕ) (a : Arbiter) (t u left : ℕ) → Served c m id a → isPair id (sqAt c id .ring) m ≡ true → TwoTaken (c .free) t u left
-      → Made c m start (ofStart m (pairTaken c id a (headEntry c m id) (nextEntry c m id) (pairVerdict c m id) t u left))
-  finishes : (tag status result : ℕ) → Finishable c (length m) tag status
-      → Made c m (finish tag status result)
-      (outcome (finished (cqAt c (cqOf c tag) .ring .tail)) (finishedController c tag (statusOf (commandAt c tag .verdict) status))
-      (finishMemory c m tag status result))
+  commands : {call : Call} {o : Outcome} → CommandMade c m call o → Made c m call o
+
+-- A coarser view, for laws of the commands and of memory: a call that is no start and no finish leaves both alone.
+pub data Commands (c : Controller) (m : Memory) : Call → Outcome → Type 0 where
+  refused-leaves : (call : Call) (n : ℕ) (xs : List SubmissionQueue) → Commands c m call (outcome (refused n) (withQueues c xs (c .cqs)) m)
+  done-leaves : (call : Call) (xs : List SubmissionQueue) (ys : List CompletionQueue)
+      → Commands c m call (outcome done (withQueues c xs ys) m)
+  changes : {call : Call} {o : Outcome} → CommandMade c m call o → Commands c m call o
+
+pub of-commands : {c : Controller} {m : Memory} {call : Call} {o : Outcome} → Made c m call o → Commands c m call o
+of-commands (refuses call n) = refused-leaves call n _
+of-commands (marks id v r e) = refused-leaves _ 10 _
+of-commands (creates-cq id size base r) = done-leaves _ _ _
+of-commands (creates-sq id size base cq class r) = done-leaves _ _ _
+of-commands (moves-tail id v r e) = done-leaves _ _ _
+of-commands (moves-head id v r) = done-leaves _ _ _
+of-commands (commands w) = changes w
 
 -- ---- each call is one of the cases
 
@@ -174,83 +165,75 @@ module _ (c : Controller) where
         ring = new-ring c n 64 size base (p .1 .1 .1 .1);
       }
 
-  pub rung : (id : ℕ) → tailRefusal c id ≡ 0 → Rung c id
+  pub takes-tail : (id : ℕ) → tailRefusal c id ≡ 0 → TakesTail c id
   unfolding tailRefusal
-  rung id z =
-      let p = passed ((ltb 15 id, 1) ∷ (not (sqAt c id .ring .exists), 9) ∷ (sqAt c id .marked, 11) ∷ []) tt z in
+  takes-tail id z =
+      let p = passed (tailRules c id) tt z in
       record { id-low = omega (arith, ltb-false 15 id (p .0)); here = not-no _ (p .1 .0); unmarked = p .1 .1 .0 }
 
-  pub read : (id v : ℕ) → headRefusal c id v ≡ 0 → Read c id v
+  pub takes-head : (id v : ℕ) → headRefusal c id v ≡ 0 → TakesHead c id v
   unfolding headRefusal
-  read id v z =
-      let p = passed ((ltb 15 id, 1) ∷ (not (cqAt c id .ring .exists), 9) ∷ (not (validHead (cqAt c id .ring) v), 10) ∷ []) tt z in
+  takes-head id v z =
+      let p = passed (headRules c id v) tt z in
       record { id-low = omega (arith, ltb-false 15 id (p .0)); here = not-no _ (p .1 .0); valid = not-no _ (p .1 .1 .0) }
 
-module _ (c : Controller) (m : List ℕ) where
-  -- a refusal of a call that answers a number
-  refusing : (call : Call) (n : ℕ) → (n ≡ 0 → ⊥) → Made c m call (ofChanged m (changed c n))
-  refusing call n h = rw (ne-eqb n 0 h) (refuses call n)
-
+module _ (c : Controller) (m : Memory) where
   cq-made : (id size base : ℕ) → Made c m (createCq id size base) (perform c m (createCq id size base))
   unfolding create.createCq
   cq-made id size base =
-      settle-cases (λ r. Made c m (createCq id size base) (ofChanged m r)) (createCqRefusal c (length m) id size base) (changed c) _
-      (λ z. creates-cq id size base (new-cq c (length m) id size base z))
-      (refusing (createCq id size base) _)
+      settle-cases (Made c m (createCq id size base)) _ _ _ (λ z. creates-cq id size base (new-cq c (length m) id size base z))
+      (λ n. refuses (createCq id size base) _)
 
   sq-made : (id size base cq class : ℕ) → Made c m (createSq id size base cq class) (perform c m (createSq id size base cq class))
   unfolding create.createSq
   sq-made id size base cq class =
-      settle-cases (λ r. Made c m (createSq id size base cq class) (ofChanged m r)) (createSqRefusal c (length m) id size base cq class) (changed c) _
+      settle-cases (Made c m (createSq id size base cq class)) _ _ _
       (λ z. creates-sq id size base cq class (new-sq c (length m) id size base cq class z))
-      (refusing (createSq id size base cq class) _)
+      (λ n. refuses (createSq id size base cq class) _)
 
   tail-made : (id v : ℕ) → Made c m (tailWrite id v) (perform c m (tailWrite id v))
   unfolding doorbell.tailWrite
   tail-made id v =
-      settle-cases (λ r. Made c m (tailWrite id v) (ofChanged m r)) (tailRefusal c id) (changed c) _
-      (λ z. pick-cases (λ r. Made c m (tailWrite id v) (ofChanged m r)) (validTail (sqAt c id .ring) v) _ _ (moves-tail id v (rung c id z)) (marks id v (rung c id z)))
-      (refusing (tailWrite id v) _)
+      settle-cases (Made c m (tailWrite id v)) _ _ _
+      (λ z. pick-cases (Made c m (tailWrite id v)) _ _ _ (moves-tail id v (takes-tail c id z)) (marks id v (takes-tail c id z)))
+      (λ n. refuses (tailWrite id v) _)
 
   head-made : (id v : ℕ) → Made c m (headWrite id v) (perform c m (headWrite id v))
   unfolding doorbell.headWrite
   head-made id v =
-      settle-cases (λ r. Made c m (headWrite id v) (ofChanged m r)) (headRefusal c id v) (changed c) _
-      (λ z. moves-head id v (read c id v z))
-      (refusing (headWrite id v) _)
-
-  abbrev MadeStart : Start → Type 0
-  MadeStart r = Made c m start (ofStart m r)
+      settle-cases (Made c m (headWrite id v)) _ _ _ (λ z. moves-head id v (takes-head c id v z)) (λ n. refuses (headWrite id v) _)
 
   module _ (h : c .free < 2 ^ 64) (id : ℕ) (a : Arbiter) (s : Served c m id a) where
-    one-made : isPair id (sqAt c id .ring) m ≡ false → MadeStart (takeOne c m id a)
+    one-made : isPair id (sqAt c id .ring) m ≡ false → Made c m start (takeOne c m id a)
     unfolding takeOne
     one-made e = go (takenOne (c .free)) refl
       where
-        go : (x : TakenOne) → takenOne (c .free) ≡ x → MadeStart (withOne c (oneTaken c id a (headEntry c m id) (oneVerdict c m id)) x)
+        go : (x : TakenOne) → takenOne (c .free) ≡ x
+            → Made c m start (withOne c m (oneTaken c m id a (headEntry c m id) (oneVerdict c m id)) x)
         go NoneFree q = refuses start 13
-        go (Tag t left) q = takes-one id a t left s e (one-taken (c .free) h q)
+        go (Tag t left) q = commands (takes-one id a t left s e (one-taken (c .free) h q))
 
-    pair-made : isPair id (sqAt c id .ring) m ≡ true → MadeStart (takePair c m id a)
+    pair-made : isPair id (sqAt c id .ring) m ≡ true → Made c m start (takePair c m id a)
     unfolding takePair
     pair-made e = go (takenTwo (c .free)) refl
       where
-        go : (x : TakenTwo) → takenTwo (c .free) ≡ x → MadeStart (withTwo c (pairTaken c id a (headEntry c m id) (nextEntry c m id) (pairVerdict c m id)) x)
+        go : (x : TakenTwo) → takenTwo (c .free) ≡ x
+            → Made c m start (withTwo c m (pairTaken c m id a (headEntry c m id) (nextEntry c m id) (pairVerdict c m id)) x)
         go TooFew q = refuses start 13
-        go (Tags t u left) q = takes-pair id a t u left s e (two-taken (c .free) h q)
+        go (Tags t u left) q = commands (takes-pair id a t u left s e (two-taken (c .free) h q))
 
   start-made : c .free < 2 ^ 64 → Made c m start (perform c m start)
   unfolding starting.start
   start-made h =
-      settle-cases MadeStart (firstMatch ((outside c (length m), 5) ∷ [])) (refusedStart c) _
-      (λ z. go (passed ((outside c (length m), 5) ∷ []) tt z .0) (choice (c .arbiter) (candidates c)) refl)
+      settle-cases (Made c m start) _ _ _
+      (λ z. go (passed (startRules c (length m)) tt z .0) (choice (c .arbiter) (candidates c)) refl)
       (λ n. refuses start _)
     where
-      go : outside c (length m) ≡ false → (x : Chosen) → choice (c .arbiter) (candidates c) ≡ x → MadeStart (takeFrom c m x)
+      go : outside c (length m) ≡ false → (x : Chosen) → choice (c .arbiter) (candidates c) ≡ x → Made c m start (takeFrom c m x)
       go i Nobody q = refuses start 12
       go i (Queue id a) q =
           let s : Served c m id a = record { inside = i; choice = q; candidate = chosen c q } in
-          pick-cases MadeStart (isPair id (sqAt c id .ring) m) _ _ (pair-made h id a s) (one-made h id a s)
+          pick-cases (Made c m start) (isPair id (sqAt c id .ring) m) _ _ (pair-made h id a s) (one-made h id a s)
 
   pub finishable : (tag status : ℕ) → finishRefusal c (length m) tag status ≡ 0 → Finishable c (length m) tag status
   unfolding finishRefusal
@@ -266,13 +249,10 @@ module _ (c : Controller) (m : List ℕ) where
       }
 
   finish-made : (tag status result : ℕ) → Made c m (finish tag status result) (perform c m (finish tag status result))
-  unfolding finishing.finish finishMemory
+  unfolding finishing.finish
   finish-made tag status result =
-      let n = finishRefusal c (length m) tag status in
-      ⊎-elim
-      (λ (z : n ≡ 0). rw (settle-accepted n (finishing.refusedFinish c) _ z) (finishes tag status result (finishable tag status z)))
-      (λ (d : n ≡ 0 → ⊥). rw (settle-refused n (finishing.refusedFinish c) _ d, settle-refused n (λ k. m) _ d) (refuses (finish tag status result) n))
-      (same-or-not n 0)
+      settle-cases (Made c m (finish tag status result)) _ _ _ (λ z. commands (finishes tag status result (finishable tag status z)))
+      (λ n. refuses (finish tag status result) _)
 
   -- every call does what one of the cases says
   pub made : c .free < 2 ^ 64 → (call : Call) → Made c m call (perform c m call)

@@ -1,7 +1,6 @@
 -- A start takes no more than is submitted, from a queue that exists and is not marked. Assumes nothing.
 use Prim.Native.Nat.{ℕ, _+_, _%_, _≤_, _<_}
 use mathlib.Core.Bool.{true, false, not}
-use mathlib.Core.List.{List}
 use mathlib.Core.Logic.{⊎-elim}
 use mathlib.Core.Path.{_≡_, refl, subst}
 use native.Mathlib.Omega.{arith}
@@ -10,17 +9,19 @@ use lib.ListN.{length, set}
 use lib.Seq.{getD-set-same}
 use borrow.Author.Tests.{eqb-false, leb-true}
 use Rattle.rules.proofs.Tests.{and-true, not-yes, lt-or-ge}
+use Rattle.le.specs.Memory.{Memory}
 use Rattle.ring.specs.Slots.{distance}
 use Rattle.ring.proofs.Steps.{distance-ahead, distance-around}
 use Rattle.controller.specs.declared.Ring.{Ring}
-use Rattle.controller.specs.declared.SubmissionQueue.{SubmissionQueue}
 use Rattle.controller.specs.declared.Controller.{Controller}
 use Rattle.controller.specs.State.{noSq, sqAt}
-use Rattle.controller.specs.Starting.{candidate, entryAt, isPair, passed, oneTaken, pairTaken}
+use Rattle.controller.specs.Starting.{candidateAt, entryAt, isPair, passed, oneTaken, pairTaken}
 use Rattle.controller.specs.Valid.{Valid}
-use Rattle.controller.specs.Calls.{Call, start, Answer, refused, done, started, finished, Outcome, Reachable, perform}
+use Rattle.controller.specs.Answers.{StartAnswer, Answer, refused, done, started, finished, Outcome}
+use Rattle.controller.specs.Calls.{Call, start, Reachable, perform}
 use Rattle.controller.proofs.Choosing.{Candidate}
-use Rattle.controller.proofs.Made.{Made, refuses, marks, creates-cq, creates-sq, moves-tail, moves-head, takes-one, takes-pair, finishes, made}
+use Rattle.controller.proofs.Made.{takes-one, takes-pair, finishes, Commands, refused-leaves, done-leaves, changes, of-commands}
+use Rattle.controller.proofs.Made.{made}
 use Rattle.controller.proofs.Validity.{valid}
 
 -- how many commands are submitted to a queue and not yet taken
@@ -37,15 +38,17 @@ pub record Taken (c d : Controller) (sq count : ℕ) : Type 0 where
 
 -- ---- what a candidate and a pair are
 
-candidate-is : (q : SubmissionQueue) → candidate q ≡ true → (q .ring .exists ≡ true) × (q .marked ≡ false) × (q .ring .head ≡ q .ring .tail → ⊥)
-unfolding candidate
-candidate-is q e =
+candidate-is : (c : Controller) (i : ℕ) → candidateAt c i ≡ true
+    → (let q = sqAt c i in (q .ring .exists ≡ true) × (q .marked ≡ false) × (q .ring .head ≡ q .ring .tail → ⊥))
+unfolding candidateAt
+candidate-is c i e =
+    let q = sqAt c i in
     let a = and-true (q .ring .exists) _ e in
     let b = and-true (not (q .marked)) _ (a .1) in
     (a .0, not-yes (q .marked) (b .0), eqb-false _ _ (not-yes _ (b .1)))
 
 -- a pair has two commands submitted: its second half stands before the tail
-two-submitted : (id : ℕ) (r : Ring) (m : List ℕ) → isPair id r m ≡ true → 2 ≤ distance (r .size) (r .head) (r .tail)
+two-submitted : (id : ℕ) (r : Ring) (m : Memory) → isPair id r m ≡ true → 2 ≤ distance (r .size) (r .head) (r .tail)
 unfolding isPair
 two-submitted id r m e =
     let a = and-true (not (eqb id 0)) _ e in
@@ -62,14 +65,14 @@ module _ {c : Controller} (v : Valid c) where
   -- a candidate has one command submitted
   one-submitted : (id : ℕ) → Candidate c id → 1 ≤ waiting c id
   one-submitted id k =
-      let q = candidate-is (sqAt c id) (k .1) in
+      let q = candidate-is c id (k .1) in
       let o = v .sq-ok id (q .0) in
       not-empty _ _ _ (o .head-below) (o .tail-below) (q .2)
 
   -- n commands are taken from a candidate that has as many submitted
   moved : (d : Controller) (id n : ℕ) → Candidate c id → n ≤ waiting c id → d .sqs ≡ set (c .sqs) id (passed (sqAt c id) n) → Taken c d id n
   moved d id n k h e =
-      let q = candidate-is (sqAt c id) (k .1) in
+      let q = candidate-is c id (k .1) in
       let l : id < length (c .sqs) = omega (arith, k .0, v .sqs-16) in
       let s = getD-set-same (c .sqs) id (passed (sqAt c id) n) noSq l in
       record { here = q .0; unmarked = q .1; submitted = h; head-after = rw (e, s) refl; tail-after = rw (e, s) refl }
@@ -78,22 +81,19 @@ module _ {c : Controller} (v : Valid c) where
   abbrev Told : Controller → Answer → Type 0
   Told d (refused n) = Unit {0}
   Told d done = Unit {0}
-  Told d (started sq count first second slot verdict) = Taken c d sq count
-  Told d (finished slot) = Unit {0}
+  Told d (started s) = Taken c d (s .sq) (s .count)
+  Told d (finished f) = Unit {0}
 
-  told : {m : List ℕ} {call : Call} {o : Outcome} → Made c m call o → Told (o .controller) (o .answer)
+  told : {m : Memory} {call : Call} {o : Outcome} → Commands c m call o → Told (o .controller) (o .answer)
   unfolding oneTaken pairTaken
-  told (refuses call n) = tt
-  told (marks id x r e) = tt
-  told (creates-cq id size base r) = tt
-  told (creates-sq id size base cq class r) = tt
-  told (moves-tail id x r e) = tt
-  told (moves-head id x r) = tt
-  told (takes-one id a t left s e w) = moved _ id 1 (s .candidate) (one-submitted id (s .candidate)) refl
-  told {m} (takes-pair id a t u left s e w) = moved _ id 2 (s .candidate) (two-submitted id (sqAt c id .ring) m e) refl
-  told (finishes tag status result r) = tt
+  told (refused-leaves call n xs) = tt
+  told (done-leaves call xs ys) = tt
+  told (changes (takes-one id a t left s e w)) = moved _ id 1 (s .candidate) (one-submitted id (s .candidate)) refl
+  told {m} (changes (takes-pair id a t u left s e w)) = moved _ id 2 (s .candidate) (two-submitted id (sqAt c id .ring) m e) refl
+  told (changes (finishes tag status result r)) = tt
 
 -- whatever a start takes is known to be submitted, to a queue that exists and is not marked
-pub taken : {c : Controller} → Reachable c → (m : List ℕ) {sq count first second slot verdict : ℕ}
-    → perform c m start .answer ≡ started sq count first second slot verdict → Taken c (perform c m start .controller) sq count
-taken {c} r m e = let v = valid r in subst (Told v (perform c m start .controller)) e (told v (made c m (v .free-64) start))
+pub taken : {c : Controller} → Reachable c → (m : Memory) {s : StartAnswer}
+    → perform c m start .answer ≡ started s → Taken c (perform c m start .controller) (s .sq) (s .count)
+taken {c} r m e =
+    let v = valid r in subst (Told v (perform c m start .controller)) e (told v (of-commands (made c m (v .free-64) start)))

@@ -11,7 +11,7 @@ use Rattle.rules.specs.Rules.{settle}
 use Rattle.bits.specs.Bits.{isSet, first, maskOf, someBelow}
 use Rattle.bits.specs.Tags.{takenOne, givenBack}
 use Rattle.le.specs.Le.{le, leAt}
-use Rattle.le.specs.Memory.{part, put, Bytes}
+use Rattle.le.specs.Memory.{Memory, part, put, Bytes}
 use Rattle.entry.specs.Completion.{completion, completionBytes, completionAt, phaseTag}
 use Rattle.entry.specs.Submission.{submissionAt}
 use Rattle.ring.specs.Slots.{next, distance, turned}
@@ -27,18 +27,20 @@ use Rattle.controller.specs.Doorbell as doorbell
 use Rattle.controller.specs.Verdict.{inUse, verdictOne}
 use Rattle.controller.specs.Starting as starting
 use Rattle.controller.specs.Finishing as finishing
-use Rattle.controller.specs.Calls.{Call, createCq, createSq, tailWrite, headWrite, start, finish, Answer, refused, done, started, finished, answers}
+use Rattle.controller.specs.Answers.{Answer, refused, done, started, finished}
+use Rattle.controller.specs.Calls.{Call, createCq, createSq, tailWrite, headWrite, start, finish}
+use Rattle.controller.specs.Steps.{answers}
 use Rattle.controller.specs.Demand.{reader, History, ringBytes, sizeOf, headWrites, unreleased}
 use Rattle.controller.proofs.Demand.{demand3}
 use Rattle.controller.proofs.Undisturbed.{bytes-append, bytes-zeros, undisturbed}
 
 -- submission entries of opcode 1, one for each CID
-abbrev pub entries : List ℕ → List ℕ
+abbrev pub entries : List ℕ → Memory
 entries [] = []
 entries (cid ∷ cids) = (1 ∷ 0 ∷ cid % 256 ∷ replicate 61 0) ++ entries cids
 
 -- the completion ring at 0 is clear, and the submission ring at 4,096 holds four entries
-unfoldable pub memory : List ℕ
+unfoldable pub memory : Memory
 memory = replicate 4096 0 ++ entries (10 ∷ 11 ∷ 12 ∷ 13 ∷ [])
 
 -- "one posting, then 17; head write 1; slot 1 with tag 1; head write 0; slot 0 with tag 0": the first pass, and on to the fourth
@@ -51,13 +53,20 @@ calls =
     ∷ headWrite 0 0 ∷ finish 0 11 83
     ∷ []
 
+-- a command taken from SQ 0 with a tag out of a slot, and a completion posted to a slot
+abbrev takes : ℕ → ℕ → Answer
+takes tag slot = started (record { sq = 0; count = 1; first = tag; second = 0; slot = slot; verdict = 0 })
+
+abbrev posts : ℕ → Answer
+posts slot = finished (record { slot = slot })
+
 abbrev pub called : List Answer
 called =
-    done ∷ done ∷ done ∷ started 0 1 0 0 0 0 ∷ started 0 1 1 0 1 0 ∷ started 0 1 2 0 2 0
-    ∷ finished 0 ∷ refused 17 ∷ done ∷ finished 1
-    ∷ done ∷ finished 0 ∷ done ∷ started 0 1 0 0 3 0 ∷ started 0 1 1 0 0 0 ∷ started 0 1 2 0 1 0 ∷ done ∷ finished 1
-    ∷ done ∷ finished 0 ∷ done ∷ finished 1 ∷ done ∷ started 0 1 0 0 2 0 ∷ refused 17
-    ∷ done ∷ finished 0
+    done ∷ done ∷ done ∷ takes 0 0 ∷ takes 1 1 ∷ takes 2 2
+    ∷ posts 0 ∷ refused 17 ∷ done ∷ posts 1
+    ∷ done ∷ posts 0 ∷ done ∷ takes 0 3 ∷ takes 1 0 ∷ takes 2 1 ∷ done ∷ posts 1
+    ∷ done ∷ posts 0 ∷ done ∷ posts 1 ∷ done ∷ takes 0 2 ∷ refused 17
+    ∷ done ∷ posts 0
     ∷ []
 
 entries-bytes : (cids : List ℕ) → Bytes (entries cids)
@@ -92,10 +101,11 @@ pub three-passes : (answers (freshController false 0) memory (createCq 0 2 0 ∷
     × (reader (ringBytes example) (sizeOf example) (headWrites example) ≡ completion 83 3 0 12 11 ∷ [])
 unfolding memory calls undisturbed example settle isSet first maskOf someBelow takenOne givenBack le leAt part put completionBytes
     submissionAt next distance turned ring.validTail ring.validHead outstanding someRing shareByte shares outside create.createCqRefusal
-    create.createSqRefusal create.createCq create.createSq doorbell.tailRefusal doorbell.tailWrite doorbell.headRefusal doorbell.headWrite inUse
-    verdictOne starting.candidate starting.candidates starting.entryAt starting.isPair starting.oneTaken
+    create.createSqRefusal create.createCq create.createSq doorbell.tailRefusal doorbell.tailWrite doorbell.headRefusal
+    doorbell.headWrite inUse
+    verdictOne starting.candidateAt starting.candidates starting.entryAt starting.isPair starting.oneTaken
     starting.takeOne starting.start finishing.full finishing.finishRefusal finishing.statusOf finishing.released finishing.unlinked
-    finishing.posted finishing.finishedController finishing.finish finishing.finishMemory arbiter.choice arbiter.byGroup turns.turn turns.nextAfter
+    finishing.posted finishing.finishedController finishing.finish arbiter.choice arbiter.byGroup turns.turn turns.nextAfter
     word.burstOf reader found readCount readSlots slotIn tagIn completionAt phaseTag
 three-passes = (refl, refl, refl, refl)
 

@@ -1,4 +1,5 @@
--- Demand 3's premise holds of any calls that follow the creation of a queue on a clear ring, where nobody else writes to memory. Assumes nothing.
+-- Demand 3's premise holds of any calls that follow the creation of a queue on a clear ring, where nobody else writes to memory.
+-- Assumes nothing.
 use Prim.Native.Nat.{ℕ, zero, suc, _+_, _*_, _/_, _^_, _<_}
 use mathlib.Core.Bool.{Bool, true, false, _&&_}
 use mathlib.Core.List.{List, [], _∷_, _++_}
@@ -12,33 +13,24 @@ use borrow.Author.Tests.{ltb-true, ltb-false}
 use Rattle.rules.proofs.Tests.{and-true, clash}
 use Rattle.rules.proofs.Tables.{passed, settle-accepted}
 use Rattle.le.specs.Le.{le}
-use Rattle.le.specs.Memory.{part, put, Bytes}
+use Rattle.le.specs.Memory.{Memory, part, put, Bytes}
 use Rattle.entry.specs.Completion.{completionBytes}
 use Rattle.entry.specs.declared.completion.Completion.{Completion}
 use Rattle.ring.specs.Reader.{tagIn}
 use Rattle.controller.specs.declared.Controller.{Controller}
-use Rattle.controller.specs.State.{noCq, cqAt, withCq, changed, freshController}
+use Rattle.controller.specs.State.{noCq, cqAt, withCq, freshController}
+use Rattle.controller.specs.Answers.{done, Outcome, outcome, refusing}
 use Rattle.controller.specs.Create as create
-use Rattle.controller.specs.Create.{createCqRules, createCqRefusal}
+use Rattle.controller.specs.Create.{createCqRules, createCqRefusal, newCq}
 use Rattle.controller.specs.Starting.{oneTaken, pairTaken}
-use Rattle.controller.specs.Finishing.{finishMemory, finishRefusal, finishedController, posted}
-use Rattle.controller.specs.Calls.{Call, createCq, createSq, tailWrite, headWrite, start, finish, Outcome, perform, Reachable, fresh, after}
-use Rattle.controller.specs.Valid.{Valid}
-use Rattle.controller.specs.Demand.{Given, final, Clean, Typed, History}
-use Rattle.controller.proofs.Lists.{set-keep, getD-same}
-use Rattle.rules.proofs.Cases.{settle-cases}
-use Rattle.controller.proofs.Made.{Made, refuses, marks, creates-cq, creates-sq, moves-tail, moves-head, takes-one, takes-pair, finishes, made, newCq}
-use Rattle.controller.proofs.Validity.{cq-below, valid}
-
--- ---- the calls, each given the memory that the last left; and the memory at the end
-
-abbrev pub given : Controller → List ℕ → List Call → List Given
-given c m [] = []
-given c m (x ∷ xs) = record { memory = m; call = x } ∷ given (perform c m x .controller) (perform c m x .memory) xs
-
-abbrev pub leaves : Controller → List ℕ → List Call → List ℕ
-leaves c m [] = m
-leaves c m (x ∷ xs) = leaves (perform c m x .controller) (perform c m x .memory) xs
+use Rattle.controller.specs.Calls.{Call, createCq, resultOf, perform, Reachable, fresh, after}
+use Rattle.controller.specs.Steps.{steps, final, given, leaves}
+use Rattle.controller.specs.Demand.{Clean, Typed, History}
+use Rattle.controller.proofs.Lists.{getD-same}
+use Rattle.controller.proofs.Made.{takes-one, takes-pair, finishes, Commands, refused-leaves, done-leaves, changes, of-commands}
+use Rattle.controller.proofs.Made.{made}
+use Rattle.controller.proofs.Validity.{valid}
+use Rattle.controller.proofs.Apart.{cq, of-rings, ring-stays}
 
 -- ---- memory stays bytes
 
@@ -81,94 +73,84 @@ bytes-completion e g =
     let f = d ++ le 2 (e .cid) in
     grown f 2 _ (grown d 2 _ (grown c 2 _ (grown b 2 _ (grown a 4 _ (bytes-le 4 _)))))
 
-finish-bytes : (c : Controller) (m : List ℕ) (tag status result : ℕ) → Bytes m → Bytes (finishMemory c m tag status result)
-unfolding finishMemory
-finish-bytes c m tag status result b =
-    settle-cases Bytes (finishRefusal c (length m) tag status) (λ n. m) _ (λ z. bytes-put m _ _ b (bytes-completion _ _)) (λ n. b)
+-- whatever a call does, the memory that it leaves holds bytes
+call-bytes : {c : Controller} {m : Memory} {call : Call} {o : Outcome} → Bytes m → Commands c m call o → Bytes (o .memory)
+unfolding oneTaken pairTaken
+call-bytes b (refused-leaves call n xs) = b
+call-bytes b (done-leaves call xs ys) = b
+call-bytes b (changes (takes-one id a t left s e w)) = b
+call-bytes b (changes (takes-pair id a t u left s e w)) = b
+call-bytes {c} {m} b (changes (finishes tag status result r)) = bytes-put m _ _ b (bytes-completion _ _)
 
 -- every result that is given has 32 bits, tested
 abbrev pub narrow : List Call → Bool
 narrow [] = true
-narrow (createCq id size base ∷ xs) = narrow xs
-narrow (createSq id size base cq class ∷ xs) = narrow xs
-narrow (tailWrite id v ∷ xs) = narrow xs
-narrow (headWrite id v ∷ xs) = narrow xs
-narrow (start ∷ xs) = narrow xs
-narrow (finish tag status result ∷ xs) = ltb result (2 ^ 32) && narrow xs
+narrow (x ∷ xs) = ltb (resultOf x) (2 ^ 32) && narrow xs
 
-typed-run : (c : Controller) (m : List ℕ) (xs : List Call) → Bytes m → narrow xs ≡ true → Typed (given c m xs)
-typed-run c m [] b t = tt
-typed-run c m (createCq id size base ∷ xs) b t = (b, tt, typed-run _ _ xs b t)
-typed-run c m (createSq id size base cq class ∷ xs) b t = (b, tt, typed-run _ _ xs b t)
-typed-run c m (tailWrite id v ∷ xs) b t = (b, tt, typed-run _ _ xs b t)
-typed-run c m (headWrite id v ∷ xs) b t = (b, tt, typed-run _ _ xs b t)
-typed-run c m (start ∷ xs) b t = (b, tt, typed-run _ _ xs b t)
-typed-run c m (finish tag status result ∷ xs) b t =
-    let n = and-true (ltb result (2 ^ 32)) (narrow xs) t in (b, ltb-true result (2 ^ 32) (n .0), typed-run _ _ xs (finish-bytes c m tag status result b) (n .1))
-
--- ---- a completion queue that exists stays, and nobody writes into its ring
+-- ---- a list of calls where nobody else writes to memory, on a completion queue that exists
 
 module _ (q : ℕ) where
   abbrev pub There : Controller → Type 0
   There c = cqAt c q .ring .exists ≡ true
 
-  stays : {c : Controller} {m : List ℕ} {call : Call} {o : Outcome} → Valid c → Made c m call o → There c → There (o .controller)
-  unfolding oneTaken pairTaken finishedController posted
-  stays v (refuses call n) y = y
-  stays v (marks id x r e) y = y
-  stays {c} v (creates-cq id size base r) y = set-keep (c .cqs) id _ noCq (λ x. x .ring .exists ≡ true) (rw (v .cqs-16) (r .id-low)) refl q y
-  stays v (creates-sq id size base cq class r) y = y
-  stays v (moves-tail id x r e) y = y
-  stays {c} v (moves-head id x r) y = set-keep (c .cqs) id _ noCq (λ x. x .ring .exists ≡ true) (rw (v .cqs-16) (r .id-low)) (r .here) q y
-  stays v (takes-one id a t left s e w) y = y
-  stays v (takes-pair id a t u left s e w) y = y
-  stays {c} v (finishes tag status result r) y =
-      let here = v .sq-cq _ (v .command-sq tag (r .out)) in
-      set-keep (c .cqs) _ _ noCq (λ x. x .ring .exists ≡ true) (rw (v .cqs-16) (cq-below v here)) here q y
+  -- it is typed and clean, and the queue is there after it
+  pub record Run (c : Controller) (m : Memory) (xs : List Call) : Type 0 where
+    pub typed : Typed (given c m xs)
+    pub clean : Clean q c m (steps c (given c m xs)) (leaves c m xs)
+    pub there : There (final c (given c m xs))
 
-  run : {c : Controller} (m : List ℕ) (xs : List Call) → Reachable c → There c
-      → Clean q c m (given c m xs) (leaves c m xs) × There (final c (given c m xs))
-  run m [] r y = (λ e. refl, y)
-  run {c} m (x ∷ xs) r y =
-      let n = run (perform c m x .memory) xs (after r m x) (stays (valid r) (made c m (valid r .free-64) x) y) in
-      ((λ e. refl, λ e. absurd (clash y e), n .0), n .1)
+  run : {c : Controller} (m : Memory) (xs : List Call) → Reachable c → Bytes m → narrow xs ≡ true → There c → Run c m xs
+  run m [] r b t y = record { typed = tt; clean = λ e. refl; there = y }
+  run {c} m (x ∷ xs) r b t y =
+      let k = made c m (valid r .free-64) x in
+      let n = and-true (ltb (resultOf x) (2 ^ 32)) (narrow xs) t in
+      let u = run (perform c m x .memory) xs (after r m x) (call-bytes b (of-commands k)) (n .1)
+      (ring-stays (of-rings (valid r) k) (cq q) y) in
+      record {
+        typed = (b, ltb-true _ (2 ^ 32) (n .0), u .typed);
+        clean = (λ e. refl, λ e. absurd (clash y e), u .clean);
+        there = u .there;
+      }
 
-module _ (weighted : Bool) (word q size base : ℕ) (m : List ℕ) (bytes : Bytes m)
+module _ (weighted : Bool) (word q size base : ℕ) (m : Memory) (bytes : Bytes m)
     (creates : createCqRefusal (freshController weighted word) (length m) q size base ≡ 0)
     (clear : (i : ℕ) → i < size → tagIn (part m base (16 * size)) i ≡ 0)
     (calls : List Call) (typed : narrow calls ≡ true) where
   abbrev c : Controller
   c = freshController weighted word
 
-  created : perform c m (createCq q size base) .controller ≡ withCq c q (newCq size base)
+  abbrev creating : Call
+  creating = createCq q size base
+
+  created : perform c m creating ≡ outcome done (withCq c q (newCq size base)) m
   unfolding create.createCq
-  created = ap (λ x. x .controller) (settle-accepted (createCqRefusal c (length m) q size base) (changed c) _ creates)
+  created = settle-accepted (createCqRefusal c (length m) q size base) (refusing c m) _ creates
 
   low : q < 16
   unfolding createCqRefusal
   low = omega (arith, ltb-false 15 q (passed (createCqRules c (length m) q size base) tt creates .0))
 
-  here : cqAt (perform c m (createCq q size base) .controller) q ≡ newCq size base
-  here = ap (λ x. cqAt x q) created ∙ getD-set-same (replicate 16 noCq) q (newCq size base) noCq low
+  here : cqAt (perform c m creating .controller) q ≡ newCq size base
+  here = ap (λ o. cqAt (o .controller) q) created ∙ getD-set-same (replicate 16 noCq) q (newCq size base) noCq low
 
   absent : cqAt c q .ring .exists ≡ false
   absent = ap (λ x. x .ring .exists) (getD-same 16 q noCq)
 
   abbrev all : List Call
-  all = createCq q size base ∷ calls
+  all = creating ∷ calls
 
-  rest : Clean q (perform c m (createCq q size base) .controller) m (given (perform c m (createCq q size base) .controller) m calls) (leaves c m all)
-      × cqAt (final c (given c m all)) q .ring .exists ≡ true
-  rest = run q m calls (after (fresh weighted word) m (createCq q size base)) (ap (λ x. x .ring .exists) here)
+  rest : Run q (perform c m creating .controller) (perform c m creating .memory) calls
+  rest =
+      run q _ calls (after (fresh weighted word) m creating) (rw (ap (λ o. o .memory) created) bytes) typed (ap (λ x. x .ring .exists) here)
 
   pub all-typed : Typed (given c m all)
-  all-typed = typed-run c m all bytes typed
+  all-typed = (bytes, lit< tt, rest .typed)
 
-  pub all-clean : Clean q c [] (given c m all) (leaves c m all)
-  all-clean = (λ e. absurd (clash e absent), λ e y. rw here clear, rest .0)
+  pub all-clean : Clean q c [] (steps c (given c m all)) (leaves c m all)
+  all-clean = (λ e. absurd (clash e absent), λ e y. rw here clear, rest .clean)
 
-  pub all-exists : cqAt (final c (given c m all)) q .ring .exists ≡ true
-  all-exists = rest .1
+  pub all-there : There q (final c (given c m all))
+  all-there = rest .there
 
   unfoldable pub undisturbed : History
   undisturbed =
@@ -180,5 +162,5 @@ module _ (weighted : Bool) (word q size base : ℕ) (m : List ℕ) (bytes : Byte
         q = q;
         typed = all-typed;
         clean = all-clean;
-        exists = all-exists;
+        exists = all-there;
       }

@@ -21,7 +21,8 @@ released-ok status k h =
     record {
       sq-low = h .sq-low;
       verdict-low =
-          pick-cases Low (eqb status 0) _ _ (λ e. h .verdict-low) (λ e. pick-cases Low (eqb (k .verdict) 0) _ _ (λ f. lit≤ tt) (λ f. h .verdict-low));
+          pick-cases Low (eqb status 0) _ _ (λ e. h .verdict-low)
+          (λ e. pick-cases Low (eqb (k .verdict) 0) _ _ (λ f. lit≤ tt) (λ f. h .verdict-low));
       first-low = omega arith;
       second-low = h .second-low;
     }

@@ -9,31 +9,28 @@ use lib.ListN.{length, getD}
 use borrow.Author.Tests.{eq-eqb, eqb-true}
 use Rattle.rules.proofs.Tests.{same-or-not}
 use Rattle.rules.proofs.Tables.{settle-refused, settle-accepted}
-use Rattle.le.specs.Memory.{part, put}
+use Rattle.le.specs.Memory.{Memory, part}
 use Rattle.le.proofs.Parts.{put-length, put-out, part-put}
 use Rattle.entry.specs.Completion.{completionBytes}
 use Rattle.entry.proofs.Completions.{completion-length}
 use Rattle.ring.specs.Reader.{slotIn}
 use Rattle.ring.proofs.Exact.{place}
+use Rattle.ring.proofs.Phase as phase
 use Rattle.controller.specs.declared.Controller.{Controller}
-use Rattle.controller.specs.State.{cqAt}
+use Rattle.controller.specs.State.{cqAt, commandAt}
 use Rattle.controller.specs.Finishing as finishing
-use Rattle.controller.specs.Finishing.{cqOf, full, finishRefusal, refusedFinish, completionOf, finishMemory}
-use Rattle.controller.specs.Calls.{Reachable, finish, Outcome, refused, finished, ofFinished, perform}
+use Rattle.controller.specs.Finishing.{cqOf, full, finishRefusal, completionOf, statusOf, finishedController, tailOf, postedMemory}
+use Rattle.controller.specs.Answers.{FinishAnswer, refused, finished, Outcome, outcome, refusing}
+use Rattle.controller.specs.Calls.{Reachable, finish, perform}
 use Rattle.controller.specs.Demand.{History, ringOf, ringBytes, sizeOf, unreleased, bookHead}
 use Rattle.controller.proofs.Made.{finishable}
 use Rattle.controller.proofs.Validity.{valid}
-use Rattle.controller.proofs.Phase as phase
-use Rattle.controller.proofs.Phase.{unread}
-use Rattle.controller.proofs.Written.{posts-to, tailOf, postedMemory, writes, fits, ring-posted, ring-kept}
+use Rattle.controller.proofs.Written.{posts-to, fits, ring-posted, ring-kept}
 use Rattle.controller.proofs.Booked.{this-or-other}
 use Rattle.controller.proofs.Demand.{last, reachable, queue}
 
-module _ {c : Controller} (r : Reachable c) (m : List ℕ) (tag status result : ℕ) where
-  -- what the finish comes to, its refusal number, where its entry goes, and the entry's bytes
-  abbrev outcome : Outcome
-  outcome = perform c m (finish tag status result)
-
+module _ {c : Controller} (r : Reachable c) (m : Memory) (tag status result : ℕ) where
+  -- its refusal number, where its entry goes, and the entry's bytes
   abbrev number : ℕ
   number = finishRefusal c (length m) tag status
 
@@ -43,20 +40,28 @@ module _ {c : Controller} (r : Reachable c) (m : List ℕ) (tag status result : 
   abbrev bytes : List ℕ
   bytes = completionBytes (completionOf c tag status result) (cqAt c (cqOf c tag) .phase)
 
-  -- a finish that is refused answers the number and writes nothing
-  pub refused-answer : (number ≡ 0 → ⊥) → outcome .answer ≡ refused number
+  -- a finish that is refused answers the number and changes nothing
+  pub finish-refused : (number ≡ 0 → ⊥) → perform c m (finish tag status result) ≡ refusing c m number
   unfolding finishing.finish
-  refused-answer n = ap (λ x. ofFinished (x .answer)) (settle-refused number (refusedFinish c) _ n)
-
-  pub refused-writes : (number ≡ 0 → ⊥) → outcome .memory ≡ m
-  unfolding finishMemory
-  refused-writes = settle-refused number (λ n. m) (put m spot bytes)
+  finish-refused n = settle-refused number (refusing c m) _ n
 
   module _ (z : number ≡ 0) where
-    -- one that is not refused answers the slot at the tail
-    pub finish-answer : outcome .answer ≡ finished (cqAt c (cqOf c tag) .ring .tail)
+    -- one that is not refused answers the slot at the tail and posts there
+    pub finish-done : perform c m (finish tag status result)
+        ≡ outcome (finished (record { slot = cqAt c (cqOf c tag) .ring .tail }))
+        (finishedController c tag (statusOf (commandAt c tag .verdict) status))
+        (postedMemory c m (cqOf c tag) (completionOf c tag status result))
     unfolding finishing.finish
-    finish-answer = ap (λ x. ofFinished (x .answer)) (settle-accepted number (refusedFinish c) _ z)
+    finish-done = settle-accepted number (refusing c m) _ z
+
+    pub finish-answer : perform c m (finish tag status result) .answer ≡ finished (record { slot = cqAt c (cqOf c tag) .ring .tail })
+    finish-answer = ap (λ o. o .answer) finish-done
+
+    abbrev left : Memory
+    left = perform c m (finish tag status result) .memory
+
+    writes : left ≡ postedMemory c m (cqOf c tag) (completionOf c tag status result)
+    writes = ap (λ o. o .memory) finish-done
 
     fit : spot + length bytes ≤ length m
     fit =
@@ -67,17 +72,23 @@ module _ {c : Controller} (r : Reachable c) (m : List ℕ) (tag status result : 
     size = completion-length (completionOf c tag status result) (cqAt c (cqOf c tag) .phase)
 
     -- leaves its entry there, with the phase tag
-    pub finish-posts : part (outcome .memory) spot 16 ≡ bytes
-    finish-posts = rw (writes c m tag status result z) (rw size at (part-put m spot bytes fit))
+    pub finish-posts : part left spot 16 ≡ bytes
+    finish-posts = rw writes (rw size at (part-put m spot bytes fit))
 
     -- and every other byte of memory as it was
-    pub finish-length : length (outcome .memory) ≡ length m
-    finish-length = ap length (writes c m tag status result z) ∙ put-length m spot bytes fit
+    pub finish-length : length left ≡ length m
+    finish-length = ap length writes ∙ put-length m spot bytes fit
 
-    pub finish-others : (i : ℕ) → ((i < spot) ⊎ (spot + 16 ≤ i)) → getD (outcome .memory) i 0 ≡ getD m i 0
-    finish-others i o = rw (writes c m tag status result z) (put-out m spot bytes fit i (rw size o))
+    pub finish-others : (i : ℕ) → ((i < spot) ⊎ (spot + 16 ≤ i)) → getD left i 0 ≡ getD m i 0
+    finish-others i o = rw writes (put-out m spot bytes fit i (rw size o))
 
 -- ---- what is still unread
+
+same-slot : {x y : FinishAnswer} → finished x ≡ finished y → x .slot ≡ y .slot
+same-slot e = cc
+
+refused-no-slot : {n : ℕ} {x : FinishAnswer} → refused n ≡ finished x → ⊥
+refused-no-slot e = let z : _≡_ {A = ℕ} 0 1 = cc in omega arith
 
 module _ (h : History) where
   -- the slot of the j-th entry that waits in the history's queue
@@ -91,22 +102,23 @@ module _ (h : History) where
   -- "the CQ has no free slot" exactly if so many do
   pub full-waits : (full (cqAt (last h) (h .q) .ring) ≡ true) ↔ (length (unreleased h) ≡ sizeOf h - 1)
   unfolding full
-  full-waits = let e = phase.waiting-length _ _ _ _ _ _ _ (queue h .phase) in (λ f. sym e ∙ eqb-true _ _ f, λ n. eq-eqb _ _ (e ∙ n))
+  full-waits = let e = phase.waiting-length (queue h .phase) in (λ f. sym e ∙ eqb-true _ _ f, λ n. eq-eqb _ _ (e ∙ n))
 
   module _ (tag status result j : ℕ) (waits : j < length (unreleased h)) where
     not-tail : unreadSlot j ≡ cqAt (last h) (h .q) .ring .tail → ⊥
-    not-tail = rw (queue h .head-same) (unread _ _ _ _ _ _ _ (queue h .phase) j waits)
+    not-tail = rw (queue h .head-same) (phase.unread (queue h .phase) j waits)
 
     -- a finish that posts to the queue never names a slot whose entry is still unread
-    pub never-unread : (m : List ℕ) → cqOf (last h) tag ≡ h .q → perform (last h) m (finish tag status result) .answer ≡ finished (unreadSlot j) → ⊥
+    pub never-unread : (m : Memory) → cqOf (last h) tag ≡ h .q
+        → perform (last h) m (finish tag status result) .answer ≡ finished (record { slot = unreadSlot j }) → ⊥
     never-unread m e a =
         ⊎-elim
-        (λ z. let t = finish-answer (reachable h) m tag status result z in not-tail (cc))
-        (λ n. let t = refused-answer (reachable h) m tag status result n in let z : _≡_ {A = ℕ} 0 1 = cc in omega arith)
+        (λ z. not-tail (same-slot (sym a ∙ finish-answer (reachable h) m tag status result z) ∙ ap (λ k. cqAt (last h) k .ring .tail) e))
+        (λ n. refused-no-slot (sym (ap (λ o. o .answer) (finish-refused (reachable h) m tag status result n)) ∙ a))
         (same-or-not (finishRefusal (last h) (length m) tag status) 0)
 
     -- the bytes of that slot, in a memory, are as the reader sees them
-    abbrev Stays : List ℕ → Type 0
+    abbrev Stays : Memory → Type 0
     Stays m = slotIn (ringOf (last h) (h .q) m) (unreadSlot j) ≡ slotIn (ringBytes h) (unreadSlot j)
 
     -- and whatever a finish posts, and wherever, they stay
@@ -115,12 +127,13 @@ module _ (h : History) where
         ⊎-elim
         (λ z. let f = finishable (last h) (h .seen) tag status z in
         let e = completionOf (last h) tag status result in
-        rw (writes (last h) (h .seen) tag status result z)
+        rw (finish-done (reachable h) (h .seen) tag status result z)
         (this-or-other
         (λ k. cqAt (last h) k .ring .exists ≡ true → Stays (postedMemory (last h) (h .seen) k e))
         (h .q) (cqOf (last h) tag)
-        (λ here. rw (ring-posted (reachable h) (h .seen) (f .inside) e (h .q) here, queue h .head-same) (phase.unread-stays _ _ _ _ _ _ _ (queue h .phase) e _ j waits))
+        (λ here. rw (ring-posted (reachable h) (h .seen) (f .inside) e (h .q) here, queue h .head-same)
+        (phase.unread-stays (queue h .phase) e _ j waits))
         (λ n here. rw (ring-kept (reachable h) (h .seen) (f .inside) e (cqOf (last h) tag) here (h .q) n (h .exists)))
         (posts-to (valid (reachable h)) tag (f .out))))
-        (λ n. rw (refused-writes (reachable h) (h .seen) tag status result n))
+        (λ n. rw (finish-refused (reachable h) (h .seen) tag status result n))
         (same-or-not (finishRefusal (last h) (length (h .seen)) tag status) 0)

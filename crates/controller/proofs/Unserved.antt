@@ -1,7 +1,6 @@
 -- A start is refused with 12 exactly if every ring lies in the memory and "no SQ is a candidate". Assumes nothing.
 use Prim.Native.Nat.{ℕ}
 use mathlib.Core.Bool.{Bool, true, false}
-use mathlib.Core.List.{List}
 use mathlib.Core.Logic.{_↔_}
 use mathlib.Core.Path.{_≡_, refl, ap}
 use native.Mathlib.Omega.{arith}
@@ -9,6 +8,7 @@ use lib.ListN.{length}
 use Rattle.rules.specs.Rules.{pick, settle}
 use Rattle.rules.proofs.Cases.{pick-cases}
 use Rattle.bits.specs.Tags.{takenOne, takenTwo}
+use Rattle.le.specs.Memory.{Memory}
 use Rattle.bits.specs.declared.TakenOne.{TakenOne}
 use Rattle.bits.specs.declared.TakenOne.the-variants.{Tag, NoneFree}
 use Rattle.bits.specs.declared.TakenTwo.{TakenTwo}
@@ -18,31 +18,24 @@ use Rattle.arbiter.specs.declared.Arbiter.{Arbiter}
 use Rattle.arbiter.specs.declared.Chosen.{Chosen}
 use Rattle.arbiter.specs.declared.Chosen.the-variants.{Queue, Nobody}
 use Rattle.controller.specs.declared.Controller.{Controller}
-use Rattle.controller.specs.declared.Start.{Start}
 use Rattle.controller.specs.State.{sqAt}
 use Rattle.controller.specs.Rings.{outside}
+use Rattle.controller.specs.Answers.{refused, numberOf, Outcome, refusing}
 use Rattle.controller.specs.Starting as starting
-use Rattle.controller.specs.Starting.{candidates, isPair, refusedStart, oneTaken, pairTaken, withOne, withTwo, takeOne, takePair, takeFrom}
-use Rattle.controller.specs.Calls.{Answer, refused, done, started, finished, ofStarted, Reachable, perform, start}
+use Rattle.controller.specs.Starting.{candidates, isPair, oneTaken, pairTaken, withOne, withTwo, takeOne, takePair, takeFrom}
+use Rattle.controller.specs.Calls.{Reachable, perform, start}
 use Rattle.controller.proofs.Choosing.{NoCandidate, nobody-waits}
 use Rattle.controller.proofs.Validity.{valid}
 
--- the refusal number of an answer, and 0 for none
-abbrev numberOf : Answer → ℕ
-numberOf (refused n) = n
-numberOf done = 0
-numberOf (started sq count first second slot verdict) = 0
-numberOf (finished slot) = 0
+abbrev Number : Outcome → ℕ
+Number o = numberOf (o .answer)
 
-abbrev Number : Start → ℕ
-Number s = numberOf (ofStarted (s .answer))
-
-module _ (c : Controller) (m : List ℕ) where
-  with-one : (f : ℕ → ℕ → Start) → ((t left : ℕ) → Number (f t left) ≡ 0) → (x : TakenOne) → Number (withOne c f x) ≡ 12 → ⊥
+module _ (c : Controller) (m : Memory) where
+  with-one : (f : ℕ → ℕ → Outcome) → ((t left : ℕ) → Number (f t left) ≡ 0) → (x : TakenOne) → Number (withOne c m f x) ≡ 12 → ⊥
   with-one f z NoneFree e = omega arith
   with-one f z (Tag t left) e = omega (arith, z t left)
 
-  with-two : (f : ℕ → ℕ → ℕ → Start) → ((t u left : ℕ) → Number (f t u left) ≡ 0) → (x : TakenTwo) → Number (withTwo c f x) ≡ 12 → ⊥
+  with-two : (f : ℕ → ℕ → ℕ → Outcome) → ((t u left : ℕ) → Number (f t u left) ≡ 0) → (x : TakenTwo) → Number (withTwo c m f x) ≡ 12 → ⊥
   with-two f z TooFew e = omega arith
   with-two f z (Tags t u left) e = omega (arith, z t u left)
 
@@ -57,14 +50,15 @@ module _ (c : Controller) (m : List ℕ) where
   taken : (x : Chosen) → Number (takeFrom c m x) ≡ 12 → x ≡ Nobody
   taken Nobody e = refl
   taken (Queue id a) e =
-      absurd (pick-cases (λ s. Number s ≡ 12 → ⊥) (isPair id (sqAt c id .ring) m) (takePair c m id a) (takeOne c m id a) (λ h. two id a) (λ h. one id a) e)
+      absurd (pick-cases (λ s. Number s ≡ 12 → ⊥) (isPair id (sqAt c id .ring) m) (takePair c m id a) (takeOne c m id a) (λ h. two id a)
+      (λ h. one id a) e)
 
-  settled : (b : Bool) (x : Start) → Number (settle (pick b 5 0) (refusedStart c) x) ≡ 12 → (b ≡ false) × (Number x ≡ 12)
+  settled : (b : Bool) (x : Outcome) → Number (settle (pick b 5 0) (refusing c m) x) ≡ 12 → (b ≡ false) × (Number x ≡ 12)
   unfolding settle
   settled true x e = absurd (omega arith)
   settled false x e = (refl, e)
 
-  nobody-taken : (b : Bool) (x : Chosen) → b ≡ false → x ≡ Nobody → ofStarted (settle (pick b 5 0) (refusedStart c) (takeFrom c m x) .answer) ≡ refused 12
+  nobody-taken : (b : Bool) (x : Chosen) → b ≡ false → x ≡ Nobody → settle (pick b 5 0) (refusing c m) (takeFrom c m x) .answer ≡ refused 12
   unfolding settle
   nobody-taken b x e f = rw (e, f) refl
 
@@ -72,6 +66,7 @@ module _ (c : Controller) (m : List ℕ) where
   unfolding starting.start
   unserved r =
       let w = nobody-waits c (valid r) in (
-        λ e. let s = settled (outside c (length m)) (takeFrom c m (choice (c .arbiter) (candidates c))) (ap numberOf e) in (s .0, w .0 (taken _ (s .1))),
+        λ e. let s = settled (outside c (length m)) (takeFrom c m (choice (c .arbiter) (candidates c))) (ap numberOf e) in
+            (s .0, w .0 (taken _ (s .1))),
         λ h. nobody-taken (outside c (length m)) (choice (c .arbiter) (candidates c)) (h .0) (w .1 (h .1)),
       )

@@ -8,15 +8,15 @@ use native.Mathlib.Omega.{arith}
 use lib.Dec.{eqb, lit≤, lit<}
 use lib.ListN.{length, getD, set, length-set, length-replicate}
 use lib.Pow.{pow-pos}
-use borrow.Author.Tests.{ltb-true}
 use Rattle.rules.proofs.Tests.{and-true, clash}
 use Rattle.bits.specs.Bits.{isSet}
 use Rattle.bits.specs.Tags.{givenBack}
 use Rattle.bits.proofs.Bits.{is-set, set-suc}
 use Rattle.bits.proofs.Tags.{OneTaken, back-fits}
+use Rattle.le.specs.Memory.{Memory}
 use Rattle.ring.specs.Slots.{turned}
 use Rattle.ring.proofs.Steps.{next-below}
-use Rattle.ring.specs.Doorbell as ring
+use Rattle.ring.proofs.Doorbells.{valid-tail, valid-head}
 use Rattle.arbiter.specs.declared.Arbiter.{Arbiter}
 use Rattle.entry.specs.declared.submission.Submission.{Submission}
 use Rattle.controller.specs.declared.Ring.{Ring}
@@ -24,20 +24,23 @@ use Rattle.controller.specs.declared.SubmissionQueue.{SubmissionQueue}
 use Rattle.controller.specs.declared.CompletionQueue.{CompletionQueue}
 use Rattle.controller.specs.declared.Command.{Command}
 use Rattle.controller.specs.declared.Controller.{Controller}
-use Rattle.controller.specs.State.{noSq, noCq, noCommand, sqAt, cqAt, commandAt, outstanding, withSq, withCq, withHead, withTail, sqWithRing, freshController}
+use Rattle.controller.specs.State.{noSq, noCq, noCommand, sqAt, cqAt, commandAt, outstanding, withSq, withCq, withHead, withTail}
+use Rattle.controller.specs.State.{sqWithRing, withCommands, freshController}
 use Rattle.controller.specs.Valid.{RingOk, CommandOk, Valid}
 use Rattle.controller.specs.Create.{newRing}
 use Rattle.controller.specs.Doorbell.{validTail, validHead, mark}
 use Rattle.controller.specs.Verdict.{oneRules, pairRules, verdictOne, verdictPair}
-use Rattle.controller.specs.Starting.{candidate, passed, oneTaken, pairTaken}
+use Rattle.controller.specs.Starting.{candidateAt, passed, oneTaken, pairTaken}
 use Rattle.controller.specs.Finishing.{cqOf, unlinked, posted, finishedController}
-use Rattle.controller.specs.Calls.{Call, Outcome, Reachable, fresh, after}
+use Rattle.controller.specs.Answers.{Outcome}
+use Rattle.controller.specs.Calls.{Call, Reachable, fresh, after}
 use Rattle.controller.proofs.Lists.{set-ind, set-all, set-keep, in-list, getD-same}
 use Rattle.rules.proofs.Cases.{pick-cases, match-to}
 use Rattle.controller.proofs.Outstanding.{out-set, taken-other, back-gone, back-out}
 use Rattle.controller.proofs.Choosing.{Candidate}
 use Rattle.controller.proofs.Unlinked.{unlinked-length, unlinked-sq, unlinked-ok}
-use Rattle.controller.proofs.Made.{Made, refuses, marks, creates-cq, creates-sq, moves-tail, moves-head, takes-one, takes-pair, finishes, NewRing, made}
+use Rattle.controller.proofs.Made.{NewRing, takes-one, takes-pair, finishes, Made, refuses, marks, creates-cq, creates-sq}
+use Rattle.controller.proofs.Made.{moves-tail, moves-head, commands, made}
 
 abbrev SqHere : SubmissionQueue → Type 0
 SqHere q = q .ring .exists ≡ true
@@ -71,7 +74,9 @@ fresh-valid weighted word =
       sq-cq-low = λ i. rw (getD-same 16 i noSq) (lit< tt);
       sq-class = λ i. rw (getD-same 16 i noSq) (lit≤ tt);
       cq-phase = λ i. rw (getD-same 16 i noCq) (lit≤ tt);
-      command-ok = λ t. rw (getD-same 64 t noCommand) (record { sq-low = lit< tt; verdict-low = lit≤ tt; first-low = lit≤ tt; second-low = lit≤ tt });
+      command-ok =
+          λ t. rw (getD-same 64 t noCommand)
+          (record { sq-low = lit< tt; verdict-low = lit≤ tt; first-low = lit≤ tt; second-low = lit≤ tt });
       command-sq = λ t o. absurd (none-out t o);
     }
 
@@ -134,9 +139,10 @@ module _ {c : Controller} (v : Valid c) where
         command-sq = v .command-sq;
       }
 
-  with-commands : (ks : List Command) (free : ℕ) (a : Arbiter) → length ks ≡ 64 → free < 2 ^ 64 → ((t : ℕ) → CommandOk (getD ks t noCommand))
+  with-commands : (ks : List Command) (free : ℕ) (a : Arbiter) → length ks ≡ 64 → free < 2 ^ 64
+      → ((t : ℕ) → CommandOk (getD ks t noCommand))
       → ((t : ℕ) → outstanding free t ≡ true → SqHere (sqAt c (getD ks t noCommand .sq)))
-      → Valid (record { sqs = c .sqs; cqs = c .cqs; commands = ks; free = free; arbiter = a })
+      → Valid (withCommands c ks free a)
   with-commands ks free a n f ok sq =
       record {
         sqs-16 = v .sqs-16;
@@ -155,7 +161,7 @@ module _ {c : Controller} (v : Valid c) where
 
   -- a tag is taken for a command of a queue that exists
   add-command : (a : Arbiter) (k : Command) {t left : ℕ} → OneTaken (c .free) t left → CommandOk k → SqHere (sqAt c (k .sq))
-      → Valid (record { sqs = c .sqs; cqs = c .cqs; commands = set (c .commands) t k; free = left; arbiter = a })
+      → Valid (withCommands c (set (c .commands) t k) left a)
   add-command a k {t} {left} w ok h =
       let l : t < length (c .commands) = rw (v .commands-64) (w .low) in
       with-commands (set (c .commands) t k) left a (length-set (c .commands) t k ∙ v .commands-64) (w .fits)
@@ -170,7 +176,8 @@ module _ {c : Controller} (v : Valid c) where
 -- ---- rings
 
 new-ok : {c : Controller} {n entry size base : ℕ} → NewRing c n entry size base → RingOk (newRing size base)
-new-ok r = record { low = r .low; high = r .high; head-below = omega (arith, r .low); tail-below = omega (arith, r .low); aligned = r .aligned }
+new-ok r =
+    record { low = r .low; high = r .high; head-below = omega (arith, r .low); tail-below = omega (arith, r .low); aligned = r .aligned }
 
 head-ok : (r : Ring) (v : ℕ) → v < r .size → RingOk r → RingOk (withHead r v)
 head-ok r v h k = record { low = k .low; high = k .high; head-below = h; tail-below = k .tail-below; aligned = k .aligned }
@@ -180,14 +187,6 @@ tail-ok r v h k = record { low = k .low; high = k .high; head-below = k .head-be
 
 sq-moved : {c : Controller} (q : SubmissionQueue) (r : Ring) → SqFits c q → r .exists ≡ true → RingOk r → SqFits c (sqWithRing q r)
 sq-moved q r f e k = record { here = e; ring = k; cq-here = f .cq-here; cq-low = f .cq-low; class-low = f .class-low }
-
-pub tail-below : (r : Ring) (v : ℕ) → validTail r v ≡ true → v < r .size
-unfolding ring.validTail
-tail-below r v e = ltb-true v (r .size) (and-true _ _ e .0)
-
-pub head-below : (r : Ring) (v : ℕ) → validHead r v ≡ true → v < r .size
-unfolding ring.validHead
-head-below r v e = ltb-true v (r .size) (and-true _ _ e .0)
 
 turned-low : (size p tag : ℕ) → tag ≤ 1 → turned size p tag ≤ 1
 unfolding turned
@@ -204,9 +203,9 @@ posted-fits q f =
 
 -- ---- starting
 
-pub candidate-here : (q : SubmissionQueue) → candidate q ≡ true → q .ring .exists ≡ true
-unfolding candidate
-candidate-here q e = and-true (q .ring .exists) _ e .0
+pub candidate-here : (c : Controller) (i : ℕ) → candidateAt c i ≡ true → SqHere (sqAt c i)
+unfolding candidateAt
+candidate-here c i e = and-true (sqAt c i .ring .exists) _ e .0
 
 verdict-one : (id : ℕ) (e : Submission) (b : Bool) → verdictOne id e b ≤ 32767
 unfolding verdictOne
@@ -218,7 +217,7 @@ verdict-pair e f a b = match-to 32767 (pairRules e f a b) tt
 
 module _ {c : Controller} (v : Valid c) (id n : ℕ) (k : Candidate c id) where
   here : SqHere (sqAt c id)
-  here = candidate-here (sqAt c id) (k .1)
+  here = candidate-here c id (k .1)
 
   passed-valid : Valid (withSq c id (passed (sqAt c id) n))
   passed-valid =
@@ -231,28 +230,34 @@ module _ {c : Controller} (v : Valid c) (id n : ℕ) (k : Candidate c id) where
 
 -- ---- each call keeps a controller valid
 
-pub valid-kept : {c : Controller} {m : List ℕ} {call : Call} {o : Outcome} → Valid c → Made c m call o → Valid (o .controller)
+pub valid-kept : {c : Controller} {m : Memory} {call : Call} {o : Outcome} → Valid c → Made c m call o → Valid (o .controller)
 unfolding oneTaken pairTaken finishedController
 valid-kept v (refuses call n) = v
 valid-kept {c} v (marks id x r e) =
     let f = sq-fits v id (r .here) in
-    with-sq v id (mark (sqAt c id)) (r .id-low) (record { here = f .here; ring = f .ring; cq-here = f .cq-here; cq-low = f .cq-low; class-low = f .class-low })
+    with-sq v id (mark (sqAt c id)) (r .id-low)
+    (record { here = f .here; ring = f .ring; cq-here = f .cq-here; cq-low = f .cq-low; class-low = f .class-low })
 valid-kept v (creates-cq id size base r) = with-cq v id _ (r .id-low) (record { here = refl; ring = new-ok (r .ring); phase-low = lit≤ tt })
 valid-kept v (creates-sq id size base cq class r) =
     with-sq v id _ (r .id-low)
     (record { here = refl; ring = new-ok (r .ring); cq-here = r .cq-here; cq-low = cq-below v (r .cq-here); class-low = r .class-low })
 valid-kept {c} v (moves-tail id x r e) =
     let q = sqAt c id in
-    with-sq v id _ (r .id-low) (sq-moved q _ (sq-fits v id (r .here)) (r .here) (tail-ok (q .ring) x (tail-below (q .ring) x e) (v .sq-ok id (r .here))))
+    with-sq v id _ (r .id-low)
+    (sq-moved q _ (sq-fits v id (r .here)) (r .here) (tail-ok (q .ring) x (valid-tail _ _ _ x .0 e .0) (v .sq-ok id (r .here))))
 valid-kept {c} v (moves-head id x r) =
     let q = cqAt c id in
     with-cq v id _ (r .id-low)
-    (record { here = r .here; ring = head-ok (q .ring) x (head-below (q .ring) x (r .valid)) (v .cq-ok id (r .here)); phase-low = v .cq-phase id })
-valid-kept v (takes-one id a t left s e w) =
+    (record {
+      here = r .here;
+      ring = head-ok (q .ring) x (valid-head _ _ _ x .0 (r .valid) .0) (v .cq-ok id (r .here));
+      phase-low = v .cq-phase id;
+    })
+valid-kept v (commands (takes-one id a t left s e w)) =
     let k = s .candidate in
     add-command (passed-valid v id 1 k) a _ w
     (record { sq-low = k .0; verdict-low = verdict-one id _ _; first-low = lit≤ tt; second-low = lit≤ tt }) (passed-here v id 1 k)
-valid-kept v (takes-pair id a t u left s e w) =
+valid-kept v (commands (takes-pair id a t u left s e w)) =
     let k = s .candidate in
     let b = verdict-pair _ _ _ _ in
     add-command
@@ -260,13 +265,14 @@ valid-kept v (takes-pair id a t u left s e w) =
     (record { sq-low = k .0; verdict-low = b; first-low = lit≤ tt; second-low = omega (arith, w .second .low) }) (passed-here v id 2 k))
     a _ (w .second)
     (record { sq-low = k .0; verdict-low = b; first-low = omega (arith, w .first .low); second-low = lit≤ tt }) (passed-here v id 2 k)
-valid-kept {c} v (finishes tag status result r) =
+valid-kept {c} v (commands (finishes tag status result r)) =
     let i = cqOf c tag in
     let s = commandAt c tag .second in
     let h = v .sq-cq _ (v .command-sq tag (r .out)) in
     let low = out-set (c .free) tag (r .out) .0 in
     with-commands
-    (with-cq v i (posted (cqAt c i)) (cq-below v h) (posted-fits (cqAt c i) (record { here = h; ring = v .cq-ok i h; phase-low = v .cq-phase i })))
+    (with-cq v i (posted (cqAt c i)) (cq-below v h)
+    (posted-fits (cqAt c i) (record { here = h; ring = v .cq-ok i h; phase-low = v .cq-phase i })))
     (unlinked (c .commands) s _) (givenBack (c .free) tag) (c .arbiter) (unlinked-length (c .commands) s _ ∙ v .commands-64)
     (back-fits (c .free) tag (v .free-64)) (unlinked-ok (c .commands) s _ (v .commands-64) (v .command-ok tag .second-low) (v .command-ok))
     (λ t o. rw (unlinked-sq (c .commands) s _ t)

@@ -1,13 +1,11 @@
 -- What a posting at the tail of one completion ring leaves of that ring, and of every other. Assumes nothing.
 use Prim.Native.Nat.{ℕ, _+_, _*_, _≤_}
 use mathlib.Core.Bool.{true, false}
-use mathlib.Core.List.{List}
 use mathlib.Core.Logic.{inl, inr, ⊎-elim}
 use mathlib.Core.Path.{_≡_}
 use native.Mathlib.Omega.{arith}
 use lib.ListN.{length}
-use Rattle.rules.proofs.Tables.{settle-accepted}
-use Rattle.le.specs.Memory.{put}
+use Rattle.le.specs.Memory.{Memory}
 use Rattle.le.proofs.Parts.{part-in, part-out}
 use Rattle.entry.specs.Completion.{completionBytes}
 use Rattle.entry.specs.declared.completion.Completion.{Completion}
@@ -15,32 +13,19 @@ use Rattle.entry.proofs.Completions.{completion-length}
 use Rattle.controller.specs.declared.Controller.{Controller}
 use Rattle.controller.specs.State.{cqAt, commandAt, outstanding}
 use Rattle.controller.specs.Rings.{outside}
-use Rattle.controller.specs.Finishing.{cqOf, finishRefusal, completionOf, finishMemory}
+use Rattle.controller.specs.Finishing.{cqOf, tailOf, postedMemory}
 use Rattle.controller.specs.Calls.{Reachable}
 use Rattle.controller.specs.Valid.{Valid}
 use Rattle.controller.specs.Demand.{ringOf}
 use Rattle.controller.proofs.Validity.{valid}
 use Rattle.controller.proofs.Apart.{cq, ring-inside, apart}
-use Rattle.controller.proofs.Posting.{postedIn}
+use Rattle.ring.proofs.Posting.{postedIn}
 
 -- the queue that an outstanding command is posted to exists
 pub posts-to : {c : Controller} → Valid c → (tag : ℕ) → outstanding (c .free) tag ≡ true → cqAt c (cqOf c tag) .ring .exists ≡ true
 posts-to {c} v tag out = v .sq-cq (commandAt c tag .sq) (v .command-sq tag out)
 
--- where queue k's next entry goes, and the memory with e posted there
-abbrev pub tailOf : Controller → ℕ → ℕ
-tailOf c k = cqAt c k .ring .base + 16 * cqAt c k .ring .tail
-
-abbrev pub postedMemory : Controller → List ℕ → ℕ → Completion → List ℕ
-postedMemory c m k e = put m (tailOf c k) (completionBytes e (cqAt c k .phase))
-
--- so a finish that is not refused posts its completion
-pub writes : (c : Controller) (m : List ℕ) (tag status result : ℕ) → finishRefusal c (length m) tag status ≡ 0
-    → finishMemory c m tag status result ≡ postedMemory c m (cqOf c tag) (completionOf c tag status result)
-unfolding finishMemory
-writes c m tag status result z = settle-accepted (finishRefusal c (length m) tag status) (λ n. m) _ z
-
-module _ {c : Controller} (r : Reachable c) (m : List ℕ) (inside : outside c (length m) ≡ false) (e : Completion)
+module _ {c : Controller} (r : Reachable c) (m : Memory) (inside : outside c (length m) ≡ false) (e : Completion)
     (k : ℕ) (here : cqAt c k .ring .exists ≡ true) where
   abbrev size : length (completionBytes e (cqAt c k .phase)) ≡ 16
   size = completion-length e (cqAt c k .phase)
@@ -55,10 +40,12 @@ module _ {c : Controller} (r : Reachable c) (m : List ℕ) (inside : outside c (
   pub ring-posted : ringOf c k (postedMemory c m k e) ≡ postedIn (ringOf c k m) (cqAt c k .ring .tail) e (cqAt c k .phase)
   ring-posted =
       let x = cqAt c k .ring in
-      part-in m (completionBytes e (cqAt c k .phase)) (x .base) (16 * x .size) (16 * x .tail) (ring-inside (valid r) inside (cq k) here) below
+      part-in m (completionBytes e (cqAt c k .phase)) (x .base) (16 * x .size) (16 * x .tail)
+      (ring-inside (valid r) inside (cq k) here) below
 
   pub ring-kept : (q : ℕ) → (k ≡ q → ⊥) → cqAt c q .ring .exists ≡ true → ringOf c q (postedMemory c m k e) ≡ ringOf c q m
   ring-kept q n there =
       let s = cqAt c q .ring in
-      part-out m (tailOf c k) (completionBytes e (cqAt c k .phase)) fits (s .base) (16 * s .size) (ring-inside (valid r) inside (cq q) there)
+      part-out m (tailOf c k) (completionBytes e (cqAt c k .phase)) fits (s .base) (16 * s .size)
+      (ring-inside (valid r) inside (cq q) there)
       (⊎-elim (λ a. inr (omega (arith, below))) (λ a. inl (omega arith)) (apart r (cq k) (cq q) (λ e. n (cc)) here there))

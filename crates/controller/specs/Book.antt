@@ -1,15 +1,17 @@
 -- The book of demand 3: what a list of calls has posted and not yet released. It is "fed arguments, answers and each start's memory".
 use Prim.Native.Nat.{ℕ, _+_, _-_, _*_, _%_}
-use mathlib.Core.List.{List, [], _∷_, _++_}
+use mathlib.Core.List.{List, [], _∷_, _++_, foldl}
 use lib.Dec.{eqb, ltb}
 use lib.ListN.{drop}
 use Rattle.rules.specs.Rules.{pick}
-use Rattle.le.specs.Memory.{part}
+use Rattle.le.specs.Memory.{Memory, part}
 use Rattle.entry.specs.Completion.{completion}
 use Rattle.entry.specs.Submission.{submissionAt}
 use Rattle.entry.specs.declared.completion.Completion.{Completion}
 use Rattle.ring.specs.Slots.{distance}
-use Rattle.controller.specs.Calls.{Call, createCq, createSq, tailWrite, headWrite, start, finish, Answer, refused, done, started, finished}
+use Rattle.controller.specs.Status.{failedFused}
+use Rattle.controller.specs.Answers.{StartAnswer, Answer, unlessRefused, startsIn}
+use Rattle.controller.specs.Calls.{Call, createCq, createSq, tailWrite, headWrite, start, finish}
 
 pub record BookSq : Type 0 where
   pub cq : ℕ
@@ -59,11 +61,11 @@ abbrev pub empty : Book
 empty = record { sqs = λ i. newSq 0 0 0; cqs = λ i. newCq 0; commands = λ t. record { sq = 0; cid = 0; verdict = 0; second = 0 } }
 
 -- the CID in a slot of a queue, in a memory
-abbrev pub cidIn : List ℕ → BookSq → ℕ → ℕ
+abbrev pub cidIn : Memory → BookSq → ℕ → ℕ
 cidIn m x slot = submissionAt (part m (x .base + 64 * slot) 64) .cid
 
 -- "each tag taken gets SQ id, verdict and its slot's CID, a pair's first half the second tag too"
-abbrev pub taken : Book → List ℕ → ℕ → ℕ → ℕ → ℕ → ℕ → Book
+abbrev pub taken : Book → Memory → ℕ → ℕ → ℕ → ℕ → ℕ → Book
 taken b m sq tag slot verdict second =
     withCommand b tag (record { sq = sq; cid = cidIn m (b .sqs sq) slot; verdict = verdict; second = second })
 
@@ -72,13 +74,17 @@ abbrev pub headPast : Book → ℕ → ℕ → Book
 headPast b sq count =
     let x = b .sqs sq in withSq b sq (record { cq = x .cq; base = x .base; size = x .size; head = (x .head + count) % x .size })
 
-abbrev pub startBook : Book → List ℕ → ℕ → ℕ → ℕ → ℕ → ℕ → ℕ → Book
-startBook b m sq count first second slot verdict =
-    pick (eqb count 2)
-    (headPast (taken (taken b m sq first slot verdict (second + 1)) m sq second ((slot + 1) % b .sqs sq .size) verdict 0) sq 2)
-    (headPast (taken b m sq first slot verdict 0) sq 1)
+abbrev pub startBook : Memory → Book → StartAnswer → Book
+startBook m b s =
+    pick (eqb (s .count) 2)
+    (headPast
+    (taken (taken b m (s .sq) (s .first) (s .slot) (s .verdict) (s .second + 1)) m (s .sq) (s .second)
+    ((s .slot + 1) % b .sqs (s .sq) .size) (s .verdict) 0)
+    (s .sq) 2)
+    (headPast (taken b m (s .sq) (s .first) (s .slot) (s .verdict) 0) (s .sq) 1)
 
--- "status (the verdict, or if 0 the one given)"
+-- "status (the verdict, or if 0 the one given)". The book has this rule of its own, and not the controller's `statusOf`: it is to be
+-- independent of what it is compared with.
 abbrev pub bookStatus : ℕ → ℕ → ℕ
 bookStatus verdict given = pick (eqb verdict 0) given verdict
 
@@ -88,7 +94,7 @@ failSecond b second status =
     let k = b .commands (second - 1) in
     pick (eqb second 0) b
     (pick (eqb status 0) b
-    (withCommand b (second - 1) (record { sq = k .sq; cid = k .cid; verdict = bookStatus (k .verdict) 0x09; second = k .second })))
+    (withCommand b (second - 1) (record { sq = k .sq; cid = k .cid; verdict = bookStatus (k .verdict) failedFused; second = k .second })))
 
 -- "result, SQ head as SQHD, SQ id, CID and status .. wait last in that SQ's CQ"
 abbrev pub waits : Book → ℕ → Completion → Book
@@ -112,24 +118,15 @@ headBook y v =
       waiting = drop (distance (y .size) (y .head) v) (y .waiting);
     }
 
--- the book after a call that was not refused, or as it was
-abbrev pub unlessRefused : Answer → Book → Book → Book
-unlessRefused (refused n) b b′ = b
-unlessRefused done b b′ = b′
-unlessRefused (started sq count first second slot verdict) b b′ = b′
-unlessRefused (finished slot) b b′ = b′
+-- what a call that was not refused enters: "tail writes: nothing"
+abbrev pub entered : Book → Memory → Call → Answer → Book
+entered b m (createCq id size base) a = withCq b id (newCq size)
+entered b m (createSq id size base cq class) a = withSq b id (newSq size base cq)
+entered b m (tailWrite id v) a = b
+entered b m (headWrite id v) a = withCq b id (headBook (b .cqs id) v)
+entered b m start a = foldl (startBook m) b (startsIn a)
+entered b m (finish tag status result) a = finishBook b tag status result
 
-abbrev pub ofStarted : Book → List ℕ → Answer → Book
-ofStarted b m (refused n) = b
-ofStarted b m done = b
-ofStarted b m (started sq count first second slot verdict) = startBook b m sq count first second slot verdict
-ofStarted b m (finished slot) = b
-
--- "Refusals, tail writes: nothing."
-unfoldable pub enter : Book → List ℕ → Call → Answer → Book
-enter b m (createCq id size base) a = unlessRefused a b (withCq b id (newCq size))
-enter b m (createSq id size base cq class) a = unlessRefused a b (withSq b id (newSq size base cq))
-enter b m (tailWrite id v) a = b
-enter b m (headWrite id v) a = unlessRefused a b (withCq b id (headBook (b .cqs id) v))
-enter b m start a = ofStarted b m a
-enter b m (finish tag status result) a = unlessRefused a b (finishBook b tag status result)
+-- "Refusals .. : nothing."
+unfoldable pub enter : Book → Memory → Call → Answer → Book
+enter b m call a = unlessRefused a b (entered b m call a)

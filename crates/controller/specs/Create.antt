@@ -3,17 +3,22 @@ use Prim.Native.Nat.{ℕ, _+_, _*_, _%_}
 use mathlib.Core.Bool.{Bool, true, false, not, _||_}
 use mathlib.Core.List.{[], _∷_}
 use lib.Dec.{ltb, eqb}
-use Rattle.rules.specs.Rules.{pick, Table, firstMatch, settle, outsideOf}
+use lib.ListN.{length}
+use Rattle.rules.specs.Rules.{pick, Table, firstMatch, settle}
+use Rattle.le.specs.Memory.{Memory}
+use Rattle.ring.specs.Slots.{wrongSize}
 use Rattle.controller.specs.declared.Ring.{Ring}
+use Rattle.controller.specs.declared.SubmissionQueue.{SubmissionQueue}
+use Rattle.controller.specs.declared.CompletionQueue.{CompletionQueue}
 use Rattle.controller.specs.declared.Controller.{Controller}
-use Rattle.controller.specs.declared.Changed.{Changed}
-use Rattle.controller.specs.State.{sqAt, cqAt, withSq, withCq, changed}
+use Rattle.controller.specs.State.{sqAt, cqAt, withSq, withCq}
 use Rattle.controller.specs.Rings.{shares}
+use Rattle.controller.specs.Answers.{Outcome, outcome, done, refusing}
 
 -- the refusals of a new ring of size entries at base in n bytes of memory
 abbrev pub ringRules : Controller → ℕ → ℕ → ℕ → ℕ → Table
 ringRules c n entry size base =
-    (outsideOf 2 1024 size, 3)
+    (wrongSize size, 3)
     ∷ (not (eqb (base % 4096) 0), 4)
     ∷ (ltb n (base + entry * size), 5)
     ∷ (shares c base (entry * size), 6)
@@ -43,12 +48,18 @@ abbrev pub newRing : ℕ → ℕ → Ring
 newRing size base = record { exists = true; base = base; size = size; head = 0; tail = 0 }
 
 -- the phase tag "written is 1 in the first pass"
-unfoldable pub createCq : Controller → ℕ → ℕ → ℕ → ℕ → Changed
-createCq c n id size base =
-    settle (createCqRefusal c n id size base) (changed c)
-    (changed (withCq c id (record { ring = newRing size base; phase = 1 })) 0)
+abbrev pub newCq : ℕ → ℕ → CompletionQueue
+newCq size base = record { ring = newRing size base; phase = 1 }
 
-unfoldable pub createSq : Controller → ℕ → ℕ → ℕ → ℕ → ℕ → ℕ → Changed
-createSq c n id size base cq class =
-    settle (createSqRefusal c n id size base cq class) (changed c)
-    (changed (withSq c id (record { ring = newRing size base; marked = false; cq = cq; class = class })) 0)
+abbrev pub newSq : ℕ → ℕ → ℕ → ℕ → SubmissionQueue
+newSq size base cq class = record { ring = newRing size base; marked = false; cq = cq; class = class }
+
+unfoldable pub createCq : Controller → Memory → ℕ → ℕ → ℕ → Outcome
+createCq c m id size base =
+    settle (createCqRefusal c (length m) id size base) (refusing c m)
+    (outcome done (withCq c id (newCq size base)) m)
+
+unfoldable pub createSq : Controller → Memory → ℕ → ℕ → ℕ → ℕ → ℕ → Outcome
+createSq c m id size base cq class =
+    settle (createSqRefusal c (length m) id size base cq class) (refusing c m)
+    (outcome done (withSq c id (newSq size base cq class)) m)

@@ -1,12 +1,12 @@
 -- Finishing commands.
 use Prim.Native.Nat.{ℕ, _+_, _-_, _*_}
 use mathlib.Core.Bool.{Bool, not}
-use mathlib.Core.List.{List, [], _∷_}
+use mathlib.Core.List.{List, [], _∷_, _++_}
 use lib.Dec.{ltb, eqb}
 use lib.ListN.{length, getD, set}
 use Rattle.rules.specs.Rules.{pick, Table, firstMatch, settle}
 use Rattle.bits.specs.Tags.{givenBack}
-use Rattle.le.specs.Memory.{put}
+use Rattle.le.specs.Memory.{Memory, put}
 use Rattle.entry.specs.Completion.{completion, completionBytes}
 use Rattle.entry.specs.declared.completion.Completion.{Completion}
 use Rattle.ring.specs.Slots.{next, distance, turned}
@@ -14,10 +14,10 @@ use Rattle.controller.specs.declared.Ring.{Ring}
 use Rattle.controller.specs.declared.CompletionQueue.{CompletionQueue}
 use Rattle.controller.specs.declared.Command.{Command}
 use Rattle.controller.specs.declared.Controller.{Controller}
-use Rattle.controller.specs.declared.Finish.{Finish}
-use Rattle.controller.specs.declared.Finished.the-variants as F
-use Rattle.controller.specs.State.{noCommand, sqAt, cqAt, commandAt, outstanding, withTail}
+use Rattle.controller.specs.State.{noCommand, sqAt, cqAt, commandAt, outstanding, withTail, withCq, withCommands}
+use Rattle.controller.specs.Status.{failedFused}
 use Rattle.controller.specs.Rings.{outside}
+use Rattle.controller.specs.Answers.{Outcome, outcome, finished, refusing}
 
 -- the completion queue that a tag's command is posted to
 abbrev pub cqOf : Controller → ℕ → ℕ
@@ -27,15 +27,16 @@ cqOf c tag = sqAt c (commandAt c tag .sq) .cq
 unfoldable pub full : Ring → Bool
 full r = eqb (distance (r .size) (r .head) (r .tail)) (r .size - 1)
 
--- "finish 5, 14, 15, 16, 17"
+-- "finish 5, 14, 15, 16, 17": the rows on the rings, the tag and the status; and those on the tag's command and the ring that it is
+-- posted to
+abbrev pub callRules : Controller → ℕ → ℕ → ℕ → Table
+callRules c n tag status = (outside c n, 5) ∷ (not (outstanding (c .free) tag), 14) ∷ (ltb 32767 status, 15) ∷ []
+
+abbrev pub postingRules : Command → Ring → Table
+postingRules k r = (not (eqb (k .first) 0), 16) ∷ (full r, 17) ∷ []
+
 abbrev pub finishRules : Controller → ℕ → ℕ → ℕ → Table
-finishRules c n tag status =
-    (outside c n, 5)
-    ∷ (not (outstanding (c .free) tag), 14)
-    ∷ (ltb 32767 status, 15)
-    ∷ (not (eqb (commandAt c tag .first) 0), 16)
-    ∷ (full (cqAt c (cqOf c tag) .ring), 17)
-    ∷ []
+finishRules c n tag status = callRules c n tag status ++ postingRules (commandAt c tag) (cqAt c (cqOf c tag) .ring)
 
 unfoldable pub finishRefusal : Controller → ℕ → ℕ → ℕ → ℕ
 finishRefusal c n tag status = firstMatch (finishRules c n tag status)
@@ -50,7 +51,7 @@ released status k =
     record {
       sq = k .sq;
       cid = k .cid;
-      verdict = pick (eqb status 0) (k .verdict) (statusOf (k .verdict) 0x09);
+      verdict = pick (eqb status 0) (k .verdict) (statusOf (k .verdict) failedFused);
       first = 0;
       second = k .second;
     }
@@ -68,34 +69,27 @@ posted q =
 -- the controller once a tag's command has posted status: "the tag is freed"
 unfoldable pub finishedController : Controller → ℕ → ℕ → Controller
 finishedController c tag status =
-    record {
-      sqs = c .sqs;
-      cqs = set (c .cqs) (cqOf c tag) (posted (cqAt c (cqOf c tag)));
-      commands = unlinked (c .commands) (commandAt c tag .second) status;
-      free = givenBack (c .free) tag;
-      arbiter = c .arbiter;
-    }
-
-abbrev pub refusedFinish : Controller → ℕ → Finish
-refusedFinish c n = record { answer = F.Refused n; controller = c }
-
--- "The answer names the slot."
-unfoldable pub finish : Controller → ℕ → ℕ → ℕ → Finish
-finish c n tag status =
-    settle (finishRefusal c n tag status) (refusedFinish c)
-    (record {
-      answer = F.Slot (cqAt c (cqOf c tag) .ring .tail);
-      controller = finishedController c tag (statusOf (commandAt c tag .verdict) status);
-    })
+    withCommands (withCq c (cqOf c tag) (posted (cqAt c (cqOf c tag))))
+    (unlinked (c .commands) (commandAt c tag .second) status) (givenBack (c .free) tag) (c .arbiter)
 
 -- the completion that is posted: "SQHD is the SQ head at the moment of posting", and "The result given is posted in every case."
 abbrev pub completionOf : Controller → ℕ → ℕ → ℕ → Completion
 completionOf c tag status result =
     let k = commandAt c tag in completion result (sqAt c (k .sq) .ring .head) (k .sq) (k .cid) (statusOf (k .verdict) status)
 
--- "Exactly the 16 bytes at the CQ tail change"
-unfoldable pub finishMemory : Controller → List ℕ → ℕ → ℕ → ℕ → List ℕ
-finishMemory c m tag status result =
-    let q = cqAt c (cqOf c tag) in
-    settle (finishRefusal c (length m) tag status) (λ n. m)
-    (put m (q .ring .base + 16 * q .ring .tail) (completionBytes (completionOf c tag status result) (q .phase)))
+-- where the next entry of completion queue q goes
+abbrev pub tailOf : Controller → ℕ → ℕ
+tailOf c q = cqAt c q .ring .base + 16 * cqAt c q .ring .tail
+
+-- the memory with a completion posted to queue q: "Exactly the 16 bytes at the CQ tail change"
+abbrev pub postedMemory : Controller → Memory → ℕ → Completion → Memory
+postedMemory c m q e = put m (tailOf c q) (completionBytes e (cqAt c q .phase))
+
+-- "The answer names the slot."
+unfoldable pub finish : Controller → Memory → ℕ → ℕ → ℕ → Outcome
+finish c m tag status result =
+    settle (finishRefusal c (length m) tag status) (refusing c m)
+    (outcome
+    (finished (record { slot = cqAt c (cqOf c tag) .ring .tail }))
+    (finishedController c tag (statusOf (commandAt c tag .verdict) status))
+    (postedMemory c m (cqOf c tag) (completionOf c tag status result)))

@@ -1,4 +1,6 @@
 pub mod State
+pub mod Status
+pub mod Answers
 pub mod Rings
 pub mod Create
 pub mod Doorbell
@@ -6,7 +8,7 @@ pub mod Verdict
 pub mod Starting
 pub mod Finishing
 pub mod Calls
+pub mod Steps
 pub mod Valid
 pub mod Book
 pub mod Demand
-pub mod Cases

@@ -1,17 +1,17 @@
 -- Starting commands.
 use Prim.Native.Nat.{ℕ, _+_, _*_, _%_}
 use mathlib.Core.Bool.{Bool, not, _&&_}
-use mathlib.Core.List.{List, [], _∷_}
+use mathlib.Core.List.{[], _∷_}
 use lib.Dec.{leb, eqb}
 use lib.ListN.{length, set}
-use Rattle.rules.specs.Rules.{pick, firstMatch, settle}
+use Rattle.rules.specs.Rules.{pick, Table, firstMatch, settle}
 use Rattle.bits.specs.Bits.{maskOf}
 use Rattle.bits.specs.Tags.{takenOne, takenTwo, oneRefusal, twoRefusal}
 use Rattle.bits.specs.declared.TakenOne.{TakenOne}
 use Rattle.bits.specs.declared.TakenOne.the-variants.{Tag, NoneFree}
 use Rattle.bits.specs.declared.TakenTwo.{TakenTwo}
 use Rattle.bits.specs.declared.TakenTwo.the-variants.{Tags, TooFew}
-use Rattle.le.specs.Memory.{part}
+use Rattle.le.specs.Memory.{Memory, part}
 use Rattle.entry.specs.Submission.{submissionAt}
 use Rattle.entry.specs.declared.submission.Submission.{Submission}
 use Rattle.ring.specs.Slots.{next, distance}
@@ -24,36 +24,36 @@ use Rattle.controller.specs.declared.Ring.{Ring}
 use Rattle.controller.specs.declared.SubmissionQueue.{SubmissionQueue}
 use Rattle.controller.specs.declared.Command.{Command}
 use Rattle.controller.specs.declared.Controller.{Controller}
-use Rattle.controller.specs.declared.Start.{Start}
-use Rattle.controller.specs.declared.Started.the-variants as S
-use Rattle.controller.specs.State.{sqAt, sqWithRing, withHead}
+use Rattle.controller.specs.State.{sqAt, sqWithRing, withHead, withSq, withCommands}
 use Rattle.controller.specs.Rings.{outside}
+use Rattle.controller.specs.Answers.{Outcome, outcome, started, refusing}
 use Rattle.controller.specs.Verdict.{inUse, verdictOne, verdictPair}
 
 -- "A candidate is an unmarked SQ that is not empty."
-unfoldable pub candidate : SubmissionQueue → Bool
-candidate q = q .ring .exists && (not (q .marked) && not (eqb (q .ring .head) (q .ring .tail)))
+unfoldable pub candidateAt : Controller → ℕ → Bool
+candidateAt c i =
+    let q = sqAt c i in q .ring .exists && (not (q .marked) && not (eqb (q .ring .head) (q .ring .tail)))
 
--- the candidates, and those of each class
-abbrev pub ofClass : Controller → ℕ → ℕ
-ofClass c k = maskOf (λ i. candidate (sqAt c i) && eqb (sqAt c i .class) k) 16
+-- a candidate of a class
+abbrev pub classAt : Controller → ℕ → ℕ → Bool
+classAt c class i = candidateAt c i && eqb (sqAt c i .class) class
 
 unfoldable pub candidates : Controller → Candidates
 candidates c =
     record {
-      all = maskOf (λ i. candidate (sqAt c i)) 16;
-      urgent = ofClass c 0;
-      high = ofClass c 1;
-      medium = ofClass c 2;
-      low = ofClass c 3;
+      all = maskOf (candidateAt c) 16;
+      urgent = maskOf (classAt c 0) 16;
+      high = maskOf (classAt c 1) 16;
+      medium = maskOf (classAt c 2) 16;
+      low = maskOf (classAt c 3) 16;
     }
 
 -- the entry in slot p of a submission ring
-unfoldable pub entryAt : List ℕ → Ring → ℕ → Submission
+unfoldable pub entryAt : Memory → Ring → ℕ → Submission
 entryAt m r p = submissionAt (part m (r .base + 64 * p) 64)
 
 -- FUSE 1 at the head with "a submitted follower of FUSE 2", on an SQ other than 0; "The pair wraps from last slot to first"
-unfoldable pub isPair : ℕ → Ring → List ℕ → Bool
+unfoldable pub isPair : ℕ → Ring → Memory → Bool
 isPair id r m =
     not (eqb id 0)
     && (eqb (entryAt m r (r .head) .fuse) 1
@@ -66,70 +66,70 @@ passed q n = sqWithRing q (withHead (q .ring) ((q .ring .head + n) % q .ring .si
 abbrev pub command : ℕ → ℕ → ℕ → ℕ → ℕ → Command
 command sq cid verdict first second = record { sq = sq; cid = cid; verdict = verdict; first = first; second = second }
 
-abbrev pub refusedStart : Controller → ℕ → Start
-refusedStart c n = record { answer = S.Refused n; controller = c }
-
 -- the entry e at the head of queue id is taken with the tag t
-unfoldable pub oneTaken : Controller → ℕ → Arbiter → Submission → ℕ → ℕ → ℕ → Start
-oneTaken c id a e v t left =
-    record {
-      answer = S.One id t (sqAt c id .ring .head) v;
-      controller =
-          record {
-            sqs = set (c .sqs) id (passed (sqAt c id) 1);
-            cqs = c .cqs;
-            commands = set (c .commands) t (command id (e .cid) v 0 0);
-            free = left;
-            arbiter = a;
-          };
-    }
+unfoldable pub oneTaken : Controller → Memory → ℕ → Arbiter → Submission → ℕ → ℕ → ℕ → Outcome
+oneTaken c m id a e v t left =
+    outcome
+    (started (record { sq = id; count = 1; first = t; second = 0; slot = sqAt c id .ring .head; verdict = v }))
+    (withCommands (withSq c id (passed (sqAt c id) 1)) (set (c .commands) t (command id (e .cid) v 0 0)) left a)
+    m
 
 -- the entries e and f at the head of queue id are taken with the tags t and u, each linked to the other
-unfoldable pub pairTaken : Controller → ℕ → Arbiter → Submission → Submission → ℕ → ℕ → ℕ → ℕ → Start
-pairTaken c id a e f v t u left =
-    record {
-      answer = S.Pair id t u (sqAt c id .ring .head) v;
-      controller =
-          record {
-            sqs = set (c .sqs) id (passed (sqAt c id) 2);
-            cqs = c .cqs;
-            commands = set (set (c .commands) t (command id (e .cid) v 0 (u + 1))) u (command id (f .cid) v (t + 1) 0);
-            free = left;
-            arbiter = a;
-          };
-    }
+unfoldable pub pairTaken : Controller → Memory → ℕ → Arbiter → Submission → Submission → ℕ → ℕ → ℕ → ℕ → Outcome
+pairTaken c m id a e f v t u left =
+    outcome
+    (started (record { sq = id; count = 2; first = t; second = u; slot = sqAt c id .ring .head; verdict = v }))
+    (withCommands (withSq c id (passed (sqAt c id) 2))
+    (set (set (c .commands) t (command id (e .cid) v 0 (u + 1))) u (command id (f .cid) v (t + 1) 0)) left a)
+    m
 
 -- "If the chosen SQ needs more than are free, the answer is 13."
-abbrev pub withOne : Controller → (ℕ → ℕ → Start) → TakenOne → Start
-withOne c f NoneFree = refusedStart c (oneRefusal NoneFree)
-withOne c f (Tag t left) = f t left
+abbrev pub withOne : Controller → Memory → (ℕ → ℕ → Outcome) → TakenOne → Outcome
+withOne c m f NoneFree = refusing c m (oneRefusal NoneFree)
+withOne c m f (Tag t left) = f t left
 
-abbrev pub withTwo : Controller → (ℕ → ℕ → ℕ → Start) → TakenTwo → Start
-withTwo c f TooFew = refusedStart c (twoRefusal TooFew)
-withTwo c f (Tags t u left) = f t u left
+abbrev pub withTwo : Controller → Memory → (ℕ → ℕ → ℕ → Outcome) → TakenTwo → Outcome
+withTwo c m f TooFew = refusing c m (twoRefusal TooFew)
+withTwo c m f (Tags t u left) = f t u left
 
+-- whether the CID of an entry of queue id is in use
 abbrev pub used : Controller → ℕ → Submission → Bool
 used c id e = inUse (c .commands) (c .free) id (e .cid)
 
-unfoldable pub takeOne : Controller → List ℕ → ℕ → Arbiter → Start
-takeOne c m id a =
-    let e = entryAt m (sqAt c id .ring) (sqAt c id .ring .head) in
-    withOne c (oneTaken c id a e (verdictOne id e (used c id e))) (takenOne (c .free))
+-- the entry at the head of queue id, and the one after it
+abbrev pub headEntry : Controller → Memory → ℕ → Submission
+headEntry c m id = let r = sqAt c id .ring in entryAt m r (r .head)
 
-unfoldable pub takePair : Controller → List ℕ → ℕ → Arbiter → Start
+abbrev pub nextEntry : Controller → Memory → ℕ → Submission
+nextEntry c m id = let r = sqAt c id .ring in entryAt m r (next (r .size) (r .head))
+
+-- the verdict on the head of queue id, taken alone, and as a pair
+abbrev pub oneVerdict : Controller → Memory → ℕ → ℕ
+oneVerdict c m id = let e = headEntry c m id in verdictOne id e (used c id e)
+
+abbrev pub pairVerdict : Controller → Memory → ℕ → ℕ
+pairVerdict c m id =
+    let e = headEntry c m id in
+    let f = nextEntry c m id in
+    verdictPair e f (used c id e) (used c id f)
+
+unfoldable pub takeOne : Controller → Memory → ℕ → Arbiter → Outcome
+takeOne c m id a = withOne c m (oneTaken c m id a (headEntry c m id) (oneVerdict c m id)) (takenOne (c .free))
+
+unfoldable pub takePair : Controller → Memory → ℕ → Arbiter → Outcome
 takePair c m id a =
-    let r = sqAt c id .ring in
-    let e = entryAt m r (r .head) in
-    let f = entryAt m r (next (r .size) (r .head)) in
-    withTwo c (pairTaken c id a e f (verdictPair e f (used c id e) (used c id f))) (takenTwo (c .free))
+    withTwo c m (pairTaken c m id a (headEntry c m id) (nextEntry c m id) (pairVerdict c m id)) (takenTwo (c .free))
 
 -- "One start takes one command, or a whole pair": from the queue chosen, and 12 where there is none
-abbrev pub takeFrom : Controller → List ℕ → Chosen → Start
-takeFrom c m C.Nobody = refusedStart c (refusalOf C.Nobody)
+abbrev pub takeFrom : Controller → Memory → Chosen → Outcome
+takeFrom c m C.Nobody = refusing c m (refusalOf C.Nobody)
 takeFrom c m (C.Queue id a) = pick (isPair id (sqAt c id .ring) m) (takePair c m id a) (takeOne c m id a)
 
--- "start 5, 12, 13"
-unfoldable pub start : Controller → List ℕ → Start
+-- "start 5, 12, 13": 12 and 13 are answered by the choice and by the tags
+abbrev pub startRules : Controller → ℕ → Table
+startRules c n = (outside c n, 5) ∷ []
+
+unfoldable pub start : Controller → Memory → Outcome
 start c m =
-    settle (firstMatch ((outside c (length m), 5) ∷ [])) (refusedStart c)
+    settle (firstMatch (startRules c (length m))) (refusing c m)
     (takeFrom c m (choice (c .arbiter) (candidates c)))

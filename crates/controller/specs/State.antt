@@ -1,12 +1,13 @@
 -- The state: what stands for nothing, a controller with one part changed, and a fresh one.
 use Prim.Native.Nat.{ℕ, _-_, _^_}
 use mathlib.Core.Bool.{Bool, false, not, _&&_}
-use mathlib.Core.List.{[], _∷_}
+use mathlib.Core.List.{List, [], _∷_}
 use lib.Dec.{ltb, eqb}
 use lib.ListN.{getD, set, replicate}
 use Rattle.rules.specs.Rules.{firstMatch, settle}
 use Rattle.bits.specs.Tags.{isFree}
 use Rattle.arbiter.specs.Arbiter.{fresh}
+use Rattle.arbiter.specs.declared.Arbiter.{Arbiter}
 use Rattle.controller.specs.declared.Ring.{Ring}
 use Rattle.controller.specs.declared.SubmissionQueue.{SubmissionQueue}
 use Rattle.controller.specs.declared.CompletionQueue.{CompletionQueue}
@@ -53,11 +54,17 @@ sqWithRing q r = record { ring = r; marked = q .marked; cq = q .cq; class = q .c
 abbrev pub cqWithRing : CompletionQueue → Ring → CompletionQueue
 cqWithRing q r = record { ring = r; phase = q .phase }
 
+abbrev pub withQueues : Controller → List SubmissionQueue → List CompletionQueue → Controller
+withQueues c xs ys = record { sqs = xs; cqs = ys; commands = c .commands; free = c .free; arbiter = c .arbiter }
+
 abbrev pub withSq : Controller → ℕ → SubmissionQueue → Controller
-withSq c i q = record { sqs = set (c .sqs) i q; cqs = c .cqs; commands = c .commands; free = c .free; arbiter = c .arbiter }
+withSq c i q = withQueues c (set (c .sqs) i q) (c .cqs)
 
 abbrev pub withCq : Controller → ℕ → CompletionQueue → Controller
-withCq c i q = record { sqs = c .sqs; cqs = set (c .cqs) i q; commands = c .commands; free = c .free; arbiter = c .arbiter }
+withCq c i q = withQueues c (c .sqs) (set (c .cqs) i q)
+
+abbrev pub withCommands : Controller → List Command → ℕ → Arbiter → Controller
+withCommands c ks free a = record { sqs = c .sqs; cqs = c .cqs; commands = ks; free = free; arbiter = a }
 
 -- "A fresh controller has a mechanism .., the 32-bit Arbitration feature word, and no queues", and every tag is free
 abbrev pub freshController : Bool → ℕ → Controller

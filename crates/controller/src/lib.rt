@@ -1,6 +1,6 @@
 // The state of one controller, held by value, and the answers of its calls.
 ghost use mathlib.Core.Path.{_≡_};
-ghost use Rattle.controller.specs.State.{created, freshController};
+ghost use Rattle.controller.specs.State.{outstanding, created, freshController};
 use arbiter::Arbiter;
 
 // A ring of entries in memory; `exists` is false where there is none, and every number is then 0.
@@ -75,7 +75,7 @@ pub struct Start {
 
 // The slot that a finish posts to.
 pub enum Finished {
-    Slot(u16),
+    Slot { slot: u16 },
     Refused(u64),
 }
 
@@ -94,9 +94,9 @@ impl Controller {
 
     pub const LAST_STATUS: u64 = 32767;
 
-    pub const LEAST_SIZE: u64 = 2;
+    pub const LEAST_SIZE: u64 = ring::slots::LEAST_SIZE;
 
-    pub const MOST_SIZE: u64 = 1024;
+    pub const MOST_SIZE: u64 = ring::slots::MOST_SIZE;
 
     pub const BASE_UNIT: u64 = 4096;
 
@@ -166,4 +166,14 @@ impl Controller {
             arbiter: Arbiter::new(weighted, word),
         }
     }
+}
+
+// Whether a tag's command is outstanding, for a tag of any size.
+pub fn is_outstanding(free: u64, tag: u64) -> bool
+    ensures { λ r. ⌜ r ≡ outstanding free tag ⌝ }
+{
+    if Controller::LAST_TAG < tag {
+        return false;
+    }
+    !bits::is_free(free, tag)
 }

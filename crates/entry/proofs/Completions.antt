@@ -52,14 +52,23 @@ module _ (e : Completion) (tag : ℕ) (rest : List ℕ) (w : Within e) where
   tag-back = omega (arith, last)
 
 -- the reader finds what the writer wrote
-pub completion-read : (b : List ℕ) (e : Completion) (tag : ℕ) → Within e → 16 ≤ length b → completionRead (written b e tag) ≡ Entry e (tag % 2)
+pub completion-read : (b : List ℕ) (e : Completion) (tag : ℕ) → Within e → 16 ≤ length b
+    → completionRead (written b e tag) ≡ Entry e (tag % 2)
 unfolding completionRead written writeRefusal settle put
 completion-read b e tag w h =
     let small : ltb 32767 (e .status) ≡ false = le-ltb 32767 (e .status) (w .status) in
     let room : ltb (length b) 16 ≡ false = le-ltb (length b) 16 h in
     let fits : 0 + length (completionBytes e tag) ≤ length b = omega (arith, completion-length e tag) in
-    let long : ltb (length (put b 0 (completionBytes e tag))) 16 ≡ false = le-ltb (length (put b 0 (completionBytes e tag))) 16 (omega (arith, put-length b 0 (completionBytes e tag) fits)) in
-    rw (small, room, long, completion-back e tag (drop (0 + length (completionBytes e tag)) b) w, tag-back e tag (drop (0 + length (completionBytes e tag)) b) w)
+    let long : ltb (length (put b 0 (completionBytes e tag))) 16 ≡ false = le-ltb (length (put b 0 (completionBytes e tag))) 16
+    (omega (arith, put-length b 0 (completionBytes e tag) fits)) in
+    rw (
+      small,
+      room,
+      long,
+      completion-back e tag (drop (0 + length (completionBytes e tag)) b) w,
+      tag-back e tag
+          (drop (0 + length (completionBytes e tag)) b) w,
+    )
 
 -- an entry whose reserved bytes are 0 is written again as it was read
 pub completion-again : (b : List ℕ) → Bytes b → 16 ≤ length b → leAt 4 b 4 ≡ 0 → completionBytes (completionAt b) (phaseTag b) ≡ part b 0 16
@@ -67,4 +76,19 @@ unfolding completionBytes completionAt phaseTag
 completion-again b y h z =
     let zeros : le 4 0 ≡ part b 4 4 = ap (le 4) (sym z) ∙ le-leAt 4 b 4 y (omega arith) in
     let whole : 2 * (leAt 2 b 14 / 2) + leAt 2 b 14 % 2 % 2 ≡ leAt 2 b 14 = omega arith in
-    rw (whole, zeros, le-leAt 4 b 0 y (omega arith), le-leAt 2 b 8 y (omega arith), le-leAt 2 b 10 y (omega arith), le-leAt 2 b 12 y (omega arith), le-leAt 2 b 14 y (omega arith), part-add b 0 4 4, part-add b 0 8 2, part-add b 0 10 2, part-add b 0 12 2, part-add b 0 14 2)
+    rw (
+      whole,
+      zeros,
+      le-leAt 4 b 0 y (omega arith),
+      le-leAt 2 b 8 y (omega arith),
+      le-leAt 2 b 10 y (omega arith),
+      le-leAt 2 b 12 y
+          (omega arith),
+      le-leAt 2 b 14 y
+          (omega arith),
+      part-add b 0 4 4,
+      part-add b 0 8 2,
+      part-add b 0 10 2,
+      part-add b 0 12 2,
+      part-add b 0 14 2,
+    )

@@ -86,7 +86,8 @@ unfolding submissionRead written writeRefusal settle put
 submission-read b e w h =
     let room : ltb (length b) 64 ≡ false = le-ltb (length b) 64 h in
     let fits : 0 + length (submissionBytes e) ≤ length b = omega (arith, submission-length e) in
-    let long : ltb (length (put b 0 (submissionBytes e))) 64 ≡ false = le-ltb (length (put b 0 (submissionBytes e))) 64 (omega (arith, put-length b 0 (submissionBytes e) fits)) in
+    let long : ltb (length (put b 0 (submissionBytes e))) 64 ≡ false = le-ltb (length (put b 0 (submissionBytes e))) 64
+    (omega (arith, put-length b 0 (submissionBytes e) fits)) in
     rw (room, long, submission-back e (drop (0 + length (submissionBytes e)) b) w)
 
 -- an entry whose reserved bits are 0 is written again as it was read
@@ -99,5 +100,37 @@ module _ (b : List ℕ) (y : Bytes b) (h : 64 ≤ length b) (z : leAt 8 b 8 ≡ 
   submission-again =
       let zeros : le 8 0 ≡ part b 8 8 = ap (le 8) (sym z) ∙ again 8 8 (omega arith) in
       let whole : leAt 1 b 1 % 4 % 4 + 64 * (leAt 1 b 1 / 64 % 4) ≡ leAt 1 b 1 = omega (arith, leAt-lt 1 b 1 y) in
-      rw (whole, zeros, again 1 0 (omega arith), again 1 1 (omega arith), again 2 2 (omega arith), again 4 4 (omega arith), again 8 16 (omega arith), again 8 24 (omega arith), again 8 32 (omega arith), again 8 40 (omega arith), again 2 48 (omega arith), again 2 50 (omega arith), again 4 52 (omega arith), again 4 56 (omega arith), again 4 60 (omega arith))
-      (rw (part-add b 0 1 1, part-add b 0 2 2, part-add b 0 4 4, part-add b 0 8 8, part-add b 0 16 8, part-add b 0 24 8, part-add b 0 32 8, part-add b 0 40 8, part-add b 0 48 2, part-add b 0 50 2, part-add b 0 52 4, part-add b 0 56 4, part-add b 0 60 4))
+      rw (
+        whole,
+        zeros,
+        again 1 0 (omega arith),
+        again 1 1 (omega arith),
+        again 2 2 (omega arith),
+        again 4 4 (omega arith),
+        again 8 16
+            (omega arith),
+        again 8 24 (omega arith),
+        again 8 32 (omega arith),
+        again 8 40 (omega arith),
+        again 2 48 (omega arith),
+        again 2 50
+            (omega arith),
+        again 4 52 (omega arith),
+        again 4 56 (omega arith),
+        again 4 60 (omega arith),
+      )
+      (rw (
+        part-add b 0 1 1,
+        part-add b 0 2 2,
+        part-add b 0 4 4,
+        part-add b 0 8 8,
+        part-add b 0 16 8,
+        part-add b 0 24 8,
+        part-add b 0 32 8,
+        part-add b 0 40 8,
+        part-add b 0 48 2,
+        part-add b 0 50 2,
+        part-add b 0 52 4,
+        part-add b 0 56 4,
+        part-add b 0 60 4,
+      ))

@@ -13,7 +13,8 @@ use Rattle.entry.specs.declared.completion.CompletionRead.the-variants.{
 abbrev pub completion : ℕ → ℕ → ℕ → ℕ → ℕ → Completion
 completion result sqhd sqid cid status = record { result = result; sqhd = sqhd; sqid = sqid; cid = cid; status = status }
 
--- "0 to 3 the command's result; 4 to 7 zero; 8 to 9 SQHD; 10 to 11 SQ id; 12 to 13 CID; 14 to 15 twice the 15-bit status plus the phase tag", a tag being "taken .. modulo 2"
+-- "0 to 3 the command's result; 4 to 7 zero; 8 to 9 SQHD; 10 to 11 SQ id; 12 to 13 CID; 14 to 15 twice the 15-bit status plus the
+-- phase tag", a tag being "taken .. modulo 2"
 unfoldable pub completionBytes : Completion → ℕ → List ℕ
 completionBytes e tag =
     le 4 (e .result) ++ le 4 0 ++ le 2 (e .sqhd) ++ le 2 (e .sqid) ++ le 2 (e .cid) ++ le 2 (2 * e .status + tag % 2)

@@ -14,7 +14,8 @@ use Rattle.entry.specs.declared.submission.SubmissionRead.the-variants.{
 abbrev pub flags : Submission → ℕ
 flags e = e .fuse % 4 + 64 * (e .psdt % 4)
 
--- "byte 0 OPC; byte 1 ..; bytes 2 to 3 CID; 4 to 7 NSID; 16 to 23 MPTR; 24 to 31 PRP1; 32 to 39 PRP2; 40 to 47 SLBA; 48 to 49 NLB ..; 50 to 63 the rest of CDW12 to CDW15. The writer puts 0 in bytes 8 to 15"
+-- "byte 0 OPC; byte 1 ..; bytes 2 to 3 CID; 4 to 7 NSID; 16 to 23 MPTR; 24 to 31 PRP1; 32 to 39 PRP2; 40 to 47 SLBA; 48 to 49 NLB
+-- ..; 50 to 63 the rest of CDW12 to CDW15. The writer puts 0 in bytes 8 to 15"
 unfoldable pub submissionBytes : Submission → List ℕ
 submissionBytes e =
     le 1 (e .opc) ++ le 1 (flags e) ++ le 2 (e .cid) ++ le 4 (e .nsid) ++ le 8 0

@@ -2,7 +2,8 @@
 use mathlib.Core.Path.{_≡_, refl, sym, ap, _∙_}
 use Prim.Native.Nat.{ℕ, zero, suc, _+_, _*_, _/_, _%_, _^_, _≤_, _<_}
 use mathlib.Core.List.{List, [], _∷_, _++_}
-use native.Mathlib.Nat.{zero-add, add-zero, suc-add, add-suc, pow-succ', pow-suc, mul-assoc, one-mul, div-one, div-div-eq-div-mul, div-lt-iff-lt-mul, zero-lt-suc, lt-of-lt-of-le, le-of-eq}
+use native.Mathlib.Nat.{zero-add, add-zero, suc-add, add-suc, pow-succ', pow-suc, mul-assoc, one-mul, div-one, div-div-eq-div-mul}
+use native.Mathlib.Nat.{div-lt-iff-lt-mul, zero-lt-suc, lt-of-lt-of-le, le-of-eq}
 use native.Mathlib.Numerals.{add-one}
 use native.Mathlib.Omega.{arith}
 use lib.ListN.{getD, drop, length, set}
@@ -61,7 +62,8 @@ unfolding le
 le-add zero k n = simp (zero-add, div-one)
 le-add (suc j) k n =
     rw suc-add (ap (λ (l : List ℕ). n % 256 ∷ l)
-    (le-add j k (n / 256) ∙ ap (λ (m : ℕ). le j (n / 256) ++ le k m) (div-div-eq-div-mul n 256 (256 ^ j) ∙ ap (λ (m : ℕ). n / m) (sym (pow-succ' 256 j)))))
+    (le-add j k (n / 256) ∙ ap (λ (m : ℕ). le j (n / 256) ++ le k m)
+    (div-div-eq-div-mul n 256 (256 ^ j) ∙ ap (λ (m : ℕ). n / m) (sym (pow-succ' 256 j)))))
 
 -- two runs of stores, one after the other, are one
 pub sets-append : (l vs ws : List ℕ) (i j : ℕ) → i + length vs ≡ j → sets (sets l i vs) j ws ≡ sets l i (vs ++ ws)

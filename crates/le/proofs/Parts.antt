@@ -21,7 +21,8 @@ rest-part o m = take-all (length m - o) (drop o m) (le-of-eq (length-drop o m))
 
 pub rest-put : (o : ℕ) (m b : List ℕ) → take o m ++ (b ++ drop (length m - o) (drop o m)) ≡ take o m ++ b
 rest-put o m b =
-    ap (λ (l : List ℕ). take o m ++ l) (ap (λ (l : List ℕ). b ++ l) (drop-of-length-le (drop o m) (le-of-eq (length-drop o m))) ∙ append-nil b)
+    ap (λ (l : List ℕ). take o m ++ l)
+    (ap (λ (l : List ℕ). b ++ l) (drop-of-length-le (drop o m) (le-of-eq (length-drop o m))) ∙ append-nil b)
 
 pub part-length : (m : List ℕ) (place n : ℕ) → place + n ≤ length m → length (part m place n) ≡ n
 unfolding part
@@ -51,7 +52,9 @@ module _ (m : List ℕ) (place : ℕ) (b : List ℕ) (fit : place + length b ≤
   -- the bytes put in
   pub put-in : (k : ℕ) → k < length b → getD (put m place b) (place + k) 0 ≡ getD b k 0
   unfolding put
-  put-in k h = past (take place m) (b ++ drop (place + length b) m) place k (place + k) front refl ∙ List·getD-append b (drop (place + length b) m) 0 k h
+  put-in k h =
+      past (take place m) (b ++ drop (place + length b) m) place k (place + k) front refl
+      ∙ List·getD-append b (drop (place + length b) m) 0 k h
 
   -- the bytes before and after
   pub put-out : (i : ℕ) → ((i < place) ⊎ (place + length b ≤ i)) → getD (put m place b) i 0 ≡ getD m i 0
@@ -76,7 +79,8 @@ module _ (m : List ℕ) (place : ℕ) (b : List ℕ) (fit : place + length b ≤
   -- the part that is the bytes put in
   pub part-put : part (put m place b) place (length b) ≡ b
   part-put =
-      let len : length (part (put m place b) place (length b)) ≡ length b = part-length (put m place b) place (length b) (omega (arith, put-length)) in
+      let len : length (part (put m place b) place (length b)) ≡ length b = part-length (put m place b) place (length b)
+      (omega (arith, put-length)) in
       ext-getD 0 (part (put m place b) place (length b)) b len
       (λ i j. let k : i < length b = omega arith in part-getD (put m place b) place (length b) i k ∙ put-in i k)
 

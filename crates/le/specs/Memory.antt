@@ -3,6 +3,10 @@ use Prim.Native.Nat.{ℕ, _+_, _<_}
 use mathlib.Core.List.{List, _++_}
 use lib.ListN.{length, take, drop, getD}
 
+-- "Memory is one lent byte slice, and an address is an offset in it."
+abbrev pub Memory : Type 0
+Memory = List ℕ
+
 -- the n bytes from place on
 unfoldable pub part : List ℕ → ℕ → ℕ → List ℕ
 part m place n = take n (drop place m)

@@ -126,8 +126,12 @@ pub extern "C" fn bellrafter_page_walk(
     addresses: &mut [u8],
     counts: &mut [u8],
 ) -> PagesAnswer
-    ensures { λ r. do ⌜ r ≡ pagesAnswer (answer (pageWalk (now (memory .entry)) prp1 prp2 length page (← ⟦addresses.len()⟧ .entry) (← ⟦counts.len()⟧ .entry))) ⌝ }
-    ensures { λ _. do ⌜ now (addresses .exit) ≡ put (now (addresses .entry)) 0 (numbers 8 (addressesOf (pageWalk (now (memory .entry)) prp1 prp2 length page (← ⟦addresses.len()⟧ .entry) (← ⟦counts.len()⟧ .entry)))) ⌝ }
+    ensures { λ r. do
+      ⌜ r ≡ pagesAnswer (answer
+          (pageWalk (now (memory .entry)) prp1 prp2 length page (← ⟦addresses.len()⟧ .entry) (← ⟦counts.len()⟧ .entry))) ⌝ }
+    ensures { λ _. do
+      ⌜ now (addresses .exit) ≡ put (now (addresses .entry)) 0 (numbers 8 (addressesOf
+          (pageWalk (now (memory .entry)) prp1 prp2 length page (← ⟦addresses.len()⟧ .entry) (← ⟦counts.len()⟧ .entry)))) ⌝ }
     ensures { λ r. ⌜ now (counts .exit) ≡ put (now (counts .entry)) 0 (numbers 4 (byteCounts (pageSize page) prp1 length (r .pages))) ⌝ }
 {
     match prp::walk(memory, prp1, prp2, length, page, addresses, counts) {

@@ -2,13 +2,11 @@
 use Prim.Native.Nat.{ℕ, zero, suc, _+_, _-_, _*_, _%_, _<_, _≤_}
 use mathlib.Core.Logic.{⊎-elim}
 use mathlib.Core.Path.{_≡_, refl, sym, ap, _∙_}
-use mathlib.Core.List.{List, [], _∷_}
+use mathlib.Core.List.{List}
 use native.Mathlib.Nat.{suc-add, zero-add}
 use native.Mathlib.Omega.{arith}
 use borrow.Author.Tests.{eq-eqb, ne-eqb, ltb-false, leb-false}
 use lib.ListN.{length}
-use lib.Dec.{ltb, leb}
-use Rattle.rules.specs.Rules.{outsideOf}
 use Rattle.rules.proofs.Tests.{range, same-or-not}
 use Rattle.rules.proofs.Tables.{passed}
 use Rattle.le.specs.Le.{leAt}
@@ -16,7 +14,7 @@ use Rattle.le.proofs.Parts.{part-getD}
 use Rattle.entry.specs.Completion.{phaseTag}
 use Rattle.ring.specs.Slots.{next, turned}
 use Rattle.ring.proofs.Steps.{next-on, next-over, turned-on, turned-over}
-use Rattle.ring.specs.Reader.{slotIn, tagIn, readCount, readSlots, readerRefusal}
+use Rattle.ring.specs.Reader.{slotIn, tagIn, readCount, readSlots, readerRules, readerRefusal}
 
 -- a slot's phase tag is the lowest bit of its byte 14
 pub tag-byte : (ring : List ℕ) (p : ℕ) → tagIn ring p ≡ leAt 1 ring (16 * p + 14) % 2
@@ -24,7 +22,8 @@ unfolding tagIn slotIn phaseTag leAt
 tag-byte ring p = omega (arith, part-getD ring (16 * p) 16 14 (omega arith))
 
 module _ (ring : List ℕ) (size : ℕ) where
-  pub count-hit : (k p g : ℕ) → tagIn ring p ≡ g → readCount (suc k) ring size p g ≡ suc (readCount k ring size (next size p) (turned size p g))
+  pub count-hit : (k p g : ℕ) → tagIn ring p ≡ g
+      → readCount (suc k) ring size p g ≡ suc (readCount k ring size (next size p) (turned size p g))
   unfolding readCount
   count-hit k p g e = rw (eq-eqb _ _ e)
 
@@ -71,10 +70,12 @@ module _ (ring : List ℕ) (size : ℕ) where
   matched j n p g h = ⊎-elim (λ e. e) (λ e. absurd (omega (arith, count-miss j p g e))) (same-or-not (tagIn ring p) g)
 
   -- it reaches the wrap, and goes on from slot 0 with the other tag
-  pub count-over : (j k p g : ℕ) → p + suc j ≡ size → readCount (suc j) ring size p g ≡ suc j → readCount (suc j + k) ring size p g ≡ suc j + readCount k ring size 0 (1 - g)
+  pub count-over : (j k p g : ℕ) → p + suc j ≡ size → readCount (suc j) ring size p g ≡ suc j
+      → readCount (suc j + k) ring size p g ≡ suc j + readCount k ring size 0 (1 - g)
   count-over zero k p g w h =
       let wrap : p + 1 ≡ size = omega arith in
-      rw (suc-add 0 k, zero-add k) (count-hit k p g (matched 0 0 p g h) ∙ rw (next-over size p g wrap, turned-over size p g wrap) (omega arith))
+      rw (suc-add 0 k, zero-add k)
+      (count-hit k p g (matched 0 0 p g h) ∙ rw (next-over size p g wrap, turned-over size p g wrap) (omega arith))
   count-over (suc j) k p g w h =
       let e = matched (suc j) (suc j) p g h in
       let on = next-on size p g (omega arith) in
@@ -92,6 +93,6 @@ slots-length (suc n) ring size p = ap suc (slots-length n ring size (next size p
 pub accepted : (n size head : ℕ) → readerRefusal n size head ≡ 0 → (2 ≤ size) × (size ≤ 1024) × (16 * size ≤ n) × (head < size)
 unfolding readerRefusal
 accepted n size head e =
-    let u = passed ((outsideOf 2 1024 size, 3) ∷ (ltb n (16 * size), 5) ∷ (leb size head, 10) ∷ []) tt e in
+    let u = passed (readerRules n size head) tt e in
     let r = range 2 1024 size (u .0) in
     (r .0, r .1, ltb-false n (16 * size) (u .1 .0), leb-false size head (u .1 .1 .0))

@@ -23,10 +23,10 @@ expected s p g i = pick (ltb (p + i) s) g (1 - g)
 abbrev pub Current : List ℕ → ℕ → ℕ → ℕ → ℕ → Type 0
 Current ring s p g i = tagIn ring (place s p i) ≡ expected s p g i
 
-place-zero : (s p : ℕ) → p < s → place s p 0 ≡ p
+pub place-zero : (s p : ℕ) → p < s → place s p 0 ≡ p
 place-zero s p l = ap (λ (x : ℕ). x % s) (add-zero p) ∙ mod-eq-of-lt l
 
-place-suc : (s p i : ℕ) → place s p (suc i) ≡ place s (next s p) i
+pub place-suc : (s p i : ℕ) → place s p (suc i) ≡ place s (next s p) i
 unfolding next
 place-suc s p i = ap (λ (x : ℕ). x % s) (omega arith) ∙ sym (mod-add-mod (p + 1) s i)
 

@@ -3,3 +3,5 @@ pub mod Steps
 pub mod Doorbells
 pub mod Counts
 pub mod Exact
+pub mod Posting
+pub mod Phase

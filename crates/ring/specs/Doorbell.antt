@@ -3,8 +3,8 @@ use Prim.Native.Nat.{ℕ}
 use mathlib.Core.Bool.{Bool, not, _&&_}
 use mathlib.Core.List.{[], _∷_, _++_}
 use lib.Dec.{ltb, leb}
-use Rattle.rules.specs.Rules.{Table, firstMatch, outsideOf}
-use Rattle.ring.specs.Slots.{distance}
+use Rattle.rules.specs.Rules.{Table, firstMatch}
+use Rattle.ring.specs.Slots.{wrongSize, distance}
 
 -- "A tail value is valid when it is below the size and its distance from the head is no less than the old tail's."
 unfoldable pub validTail : ℕ → ℕ → ℕ → ℕ → Bool
@@ -14,9 +14,9 @@ validTail size head tail v = ltb v size && leb (distance size head tail) (distan
 unfoldable pub validHead : ℕ → ℕ → ℕ → ℕ → Bool
 validHead size head tail v = ltb v size && leb (distance size head v) (distance size head tail)
 
--- "size outside 2 to 1,024 entries" (3); "for .. the plain doorbell checks also a head or tail not below size" (10)
+-- 3; "for .. the plain doorbell checks also a head or tail not below size" (10)
 abbrev pub placeRules : ℕ → ℕ → ℕ → Table
-placeRules size head tail = (outsideOf 2 1024 size, 3) ∷ (leb size head, 10) ∷ (leb size tail, 10) ∷ []
+placeRules size head tail = (wrongSize size, 3) ∷ (leb size head, 10) ∷ (leb size tail, 10) ∷ []
 
 unfoldable pub placeRefusal : ℕ → ℕ → ℕ → ℕ
 placeRefusal size head tail = firstMatch (placeRules size head tail)

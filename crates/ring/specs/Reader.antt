@@ -3,11 +3,11 @@ use Prim.Native.Nat.{ℕ, zero, suc, _*_, _-_, _%_}
 use mathlib.Core.List.{List, [], _∷_}
 use lib.Dec.{ltb, leb, eqb}
 use lib.ListN.{length}
-use Rattle.rules.specs.Rules.{pick, firstMatch, settle, outsideOf}
+use Rattle.rules.specs.Rules.{pick, Table, firstMatch, settle}
 use Rattle.le.specs.Memory.{part}
 use Rattle.entry.specs.Completion.{completionAt, phaseTag}
 use Rattle.entry.specs.declared.completion.Completion.{Completion}
-use Rattle.ring.specs.Slots.{next, turned}
+use Rattle.ring.specs.Slots.{wrongSize, next, turned}
 use Rattle.ring.specs.declared.reader.Waiting.{Waiting}
 use Rattle.ring.specs.declared.reader.Waiting.the-variants.{Count, Refused}
 
@@ -33,9 +33,12 @@ readSlots (suc n) ring size p = completionAt (slotIn ring p) ∷ readSlots n rin
 unfoldable pub found : List ℕ → ℕ → ℕ → ℕ → List Completion
 found ring size head tag = readSlots (readCount (size - 1) ring size head tag) ring size head
 
--- its refusals on n bytes, in order
+-- "reader 3, 5, 10": its refusals on n bytes
+abbrev pub readerRules : ℕ → ℕ → ℕ → Table
+readerRules n size head = (wrongSize size, 3) ∷ (ltb n (16 * size), 5) ∷ (leb size head, 10) ∷ []
+
 unfoldable pub readerRefusal : ℕ → ℕ → ℕ → ℕ
-readerRefusal n size head = firstMatch ((outsideOf 2 1024 size, 3) ∷ (ltb n (16 * size), 5) ∷ (leb size head, 10) ∷ [])
+readerRefusal n size head = firstMatch (readerRules n size head)
 
 -- "It answers their number", the tag given being taken modulo 2
 unfoldable pub ringRead : List ℕ → ℕ → ℕ → ℕ → Waiting

@@ -3,6 +3,7 @@ ghost use mathlib.Core.Path.{_≡_};
 ghost use Prim.Native.Nat.{_≤_, _<_};
 ghost use Rattle.ring.specs.Doorbell.{validTail, validHead, placeRefusal, tailCheck, headCheck};
 use crate::slots::distance_in;
+use crate::slots::wrong_size;
 
 fn valid_tail(size: u64, head: u64, tail: u64, value: u64) -> bool
     requires { ⌜ (head < size) × (tail < size) × (size ≤ 1024) ⌝ }
@@ -28,10 +29,7 @@ fn valid_head(size: u64, head: u64, tail: u64, value: u64) -> bool
 fn places(size: u64, head: u64, tail: u64) -> u64
     ensures { λ r. ⌜ r ≡ placeRefusal size head tail ⌝ }
 {
-    if size < 2 {
-        return 3;
-    }
-    if 1024 < size {
+    if wrong_size(size) {
         return 3;
     }
     if size <= head {

@@ -3,6 +3,7 @@ ghost use mathlib.Core.Path.{_≡_};
 ghost use Prim.Native.Nat.{ℕ, _+_, _*_, _-_, _≤_, _<_};
 ghost use lib.ListN.{length};
 ghost use Rattle.ring.specs.Reader.{tagIn, readCount, readerRefusal, ringRead};
+use crate::slots::wrong_size;
 
 // How many completions wait, or the refusal number.
 pub enum Waiting {
@@ -51,10 +52,7 @@ fn count(ring: &[u8], size: u64, head: u64, tag: u64) -> u64
 fn refusal(bytes: usize, size: u64, head: u64) -> u64
     ensures { λ r. ⌜ r ≡ readerRefusal bytes size head ⌝ }
 {
-    if size < 2 {
-        return 3;
-    }
-    if 1024 < size {
+    if wrong_size(size) {
         return 3;
     }
     if (bytes as u64) < 16 * size {

@@ -2,7 +2,18 @@
 // below the size, which every caller shows.
 ghost use mathlib.Core.Path.{_≡_};
 ghost use Prim.Native.Nat.{_≤_, _<_};
-ghost use Rattle.ring.specs.Slots.{next, distance, turned};
+ghost use Rattle.ring.specs.Slots.{wrongSize, next, distance, turned};
+
+// How many entries a ring has.
+pub const LEAST_SIZE: u64 = 2;
+
+pub const MOST_SIZE: u64 = 1024;
+
+pub fn wrong_size(size: u64) -> bool
+    ensures { λ r. ⌜ r ≡ wrongSize size ⌝ }
+{
+    (size < LEAST_SIZE) | (MOST_SIZE < size)
+}
 
 // How far b lies after a.
 pub fn distance_in(size: u64, a: u64, b: u64) -> u64

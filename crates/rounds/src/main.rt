@@ -6,14 +6,14 @@ ghost use Rattle.controller.specs.Calls.{Reachable};
 use controller::Controller;
 use controller::Finished;
 use controller::Started;
-use engine::create::create_cq;
-use engine::create::create_sq;
-use engine::doorbell::head_write;
-use engine::doorbell::tail_write;
-use engine::finish::finish;
+use doorbells::head_write;
+use doorbells::tail_write;
 use entry::submission::Submission;
+use finisher::finish;
 use libc::STDIN_FILENO;
 use libc::STDOUT_FILENO;
+use queues::create::create_cq;
+use queues::create::create_sq;
 use starter::start;
 use words::line::Word;
 use words::line::next_word;
@@ -89,7 +89,7 @@ fn of_started(answer: Started) -> u64 {
 
 fn of_finished(answer: Finished) -> u64 {
     match answer {
-        Finished::Slot(slot) => slot as u64,
+        Finished::Slot { slot } => slot as u64,
         Finished::Refused(number) => number,
     }
 }

@@ -7,15 +7,15 @@ use controller::Finish;
 use controller::Finished;
 use controller::Start;
 use controller::Started;
-use engine::create::create_cq;
-use engine::create::create_sq;
-use engine::doorbell::head_write;
-use engine::doorbell::tail_write;
-use engine::finish::finish;
-use plain::codec::low32;
-use plain::reply::Reply;
-use plain::reply::bit;
+use doorbells::head_write;
+use doorbells::tail_write;
+use finisher::finish;
+use queues::create::create_cq;
+use queues::create::create_sq;
 use starter::start;
+use stateless::codec::low32;
+use stateless::reply::Reply;
+use stateless::reply::bit;
 use words::command::Command;
 
 // A reply, and the controller that is left.
@@ -80,7 +80,7 @@ fn of_start(r: Start) -> Called
 // The slot.
 fn finished(answer: Finished) -> Reply {
     match answer {
-        Finished::Slot(slot) => Reply::of(0).and16(slot),
+        Finished::Slot { slot } => Reply::of(0).and16(slot),
         Finished::Refused(n) => Reply::refused(n, 2),
     }
 }
@@ -151,7 +151,7 @@ fn show_tag(c: Controller, a: [u64; 16]) -> Reply {
     if Controller::LAST_TAG < tag {
         return Reply::bad();
     }
-    if !queues::is_outstanding(c.free, tag) {
+    if !controller::is_outstanding(c.free, tag) {
         return Reply::refused(0, 4);
     }
     let i = tag as usize;

@@ -10,7 +10,7 @@ use lib.ListN.{length, take, drop}
 use borrow.Author.Tests.{le-ltb, eq-eqb, ne-eqb}
 use Rattle.rules.specs.Rules.{settle}
 use Rattle.rules.proofs.Tests.{bool-cases, not-no, not-yes}
-use Rattle.le.specs.Memory.{part}
+use Rattle.le.specs.Memory.{Memory, part}
 use Rattle.entry.specs.Submission.{submissionAt, submissionRead}
 use Rattle.entry.specs.declared.submission.Submission.{Submission}
 use Rattle.entry.specs.declared.submission.SubmissionRead.the-variants.{Entry, Refused}
@@ -21,7 +21,7 @@ use Rattle.starter.specs.declared.head.Head.the-variants.{One, Pair}
 use Rattle.starter.specs.Taking.{headOf}
 
 -- the bytes between two places
-pub part-between : (m : List ℕ) (o n : ℕ) → take (o + n - o) (drop o m) ≡ part m o n
+pub part-between : (m : Memory) (o n : ℕ) → take (o + n - o) (drop o m) ≡ part m o n
 unfolding part
 part-between m o n = ap (λ (k : ℕ). take k (drop o m)) {x = o + n - o} {y = n} (omega arith)
 
@@ -38,7 +38,8 @@ module _ (b : List ℕ) (h : 64 ≤ length b) where
   entry-read e = let q = entry-there in cc
 
 -- a pair, and what is taken alone: the next entry counts where FUSE 1 stands at the head of a queue other than 0, with a follower
-module _ (m : List ℕ) (id : ℕ) (r : Ring) {e : Submission} (x : e ≡ entryAt m r (r .head)) {d : ℕ} (y : d ≡ distance (r .size) (r .head) (r .tail)) where
+module _ (m : Memory) (id : ℕ) (r : Ring) {e : Submission} (x : e ≡ entryAt m r (r .head)) {d : ℕ}
+    (y : d ≡ distance (r .size) (r .head) (r .tail)) where
   abbrev opens : Bool
   opens = not (eqb id 0) && (eqb (e .fuse) 1 && leb 2 d)
 
@@ -62,7 +63,7 @@ module _ (m : List ℕ) (id : ℕ) (r : Ring) {e : Submission} (x : e ≡ entryA
     paired k = rw (pair-is, not-no opens h, ← n, ← z, eq-eqb (f .fuse) 2 k, x)
 
 -- what stands at the head, taken apart
-module _ (m : List ℕ) (id : ℕ) (r : Ring) where
+module _ (m : Memory) (id : ℕ) (r : Ring) where
   pub head-one : {e : Submission} → headOf m id r ≡ One e → (isPair id r m ≡ false) × (e ≡ entryAt m r (r .head))
   unfolding headOf
   head-one {e} h =
@@ -75,4 +76,5 @@ module _ (m : List ℕ) (id : ℕ) (r : Ring) where
   head-pair {e} {f} h =
       ⊎-elim (λ (y : isPair id r m ≡ true).
       let q : Pair (entryAt m r (r .head)) (entryAt m r (next (r .size) (r .head))) ≡ Pair e f = rw y at h in (y, cc, cc))
-      (λ (n : isPair id r m ≡ false). let q = rw n at h in let z : _≡_ {A = ℕ} 0 1 = cc in absurd (omega arith)) (bool-cases (isPair id r m))
+      (λ (n : isPair id r m ≡ false). let q = rw n at h in let z : _≡_ {A = ℕ} 0 1 = cc in absurd (omega arith))
+      (bool-cases (isPair id r m))

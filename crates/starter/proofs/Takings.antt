@@ -16,6 +16,7 @@ use Rattle.bits.specs.declared.TakenOne.the-variants.{Tag, NoneFree}
 use Rattle.bits.specs.declared.TakenTwo.{TakenTwo}
 use Rattle.bits.specs.declared.TakenTwo.the-variants.{Tags, TooFew}
 use Rattle.bits.proofs.Tags.{one-taken, two-taken}
+use Rattle.le.specs.Memory.{Memory}
 use Rattle.entry.specs.declared.submission.Submission.{Submission}
 use Rattle.arbiter.specs.Arbiter.{choice}
 use Rattle.arbiter.specs.declared.Arbiter.{Arbiter}
@@ -25,16 +26,18 @@ use Rattle.controller.specs.declared.Ring.{Ring}
 use Rattle.controller.specs.declared.SubmissionQueue.{SubmissionQueue}
 use Rattle.controller.specs.declared.Command.{Command}
 use Rattle.controller.specs.declared.Controller.{Controller}
-use Rattle.controller.specs.declared.Start.{Start}
-use Rattle.controller.specs.State.{sqAt}
-use Rattle.controller.specs.Rings.{outside}
+use Rattle.controller.specs.State.{withSq, withCommands, sqAt}
+use Rattle.controller.specs.Rings.{someCq, endsPast, outside}
 use Rattle.controller.specs.Verdict.{inUse, verdictOne, verdictPair}
 use Rattle.controller.specs.Valid.{Valid}
-use Rattle.controller.specs.Starting.{candidates, passed, refusedStart, oneTaken, pairTaken, withOne, withTwo, takeOne, takePair, takeFrom, start}
+use Rattle.controller.specs.Answers.{Outcome, outcome, refusing}
+use Rattle.controller.specs.Starting.{candidates, passed, oneTaken, pairTaken, withOne, withTwo, takeOne, takePair, takeFrom, start}
+use Rattle.controller.specs.Calls.{ofStarted}
 use Rattle.controller.proofs.Choosing.{chosen}
 use Rattle.controller.proofs.Validity.{candidate-here}
-use Rattle.queues.specs.Rings.{someCq, endsPast}
-use Rattle.queues.proofs.Rings.{outside-halves, sq-inside}
+use Rattle.controller.proofs.Apart as ring
+use Rattle.controller.proofs.Apart.{ring-inside}
+use Rattle.queues.proofs.Bounds.{outside-halves}
 use Rattle.starter.specs.declared.head.Head.{Head}
 use Rattle.starter.specs.declared.head.Head.the-variants.{One, Pair}
 use Rattle.starter.specs.declared.survey.Survey.{Survey}
@@ -98,57 +101,48 @@ module _ (ks : List Command) (free id slot : ℕ) where
 -- ---- the start that takes it
 
 -- the answer and the controller, with queue id as it is left and the commands stored
-abbrev storing : Controller → ℕ → Arbiter → Taken → SubmissionQueue → Start
-storing c id a k q =
-    record {
-      answer = k .answer;
-      controller =
-          record {
-            sqs = set (c .sqs) id q;
-            cqs = c .cqs;
-            commands = set (set (c .commands) (k .first) (k .one)) (k .second) (k .other);
-            free = k .left;
-            arbiter = a;
-          };
-    }
+abbrev storing : Controller → Memory → ℕ → Arbiter → Taken → SubmissionQueue → Outcome
+storing c m id a k q =
+    outcome (ofStarted (k .answer))
+    (withCommands (withSq c id q) (set (set (c .commands) (k .first) (k .one)) (k .second) (k .other)) (k .left) a) m
 
-abbrev startOf : Controller → ℕ → Arbiter → Taken → Start
-startOf c id a k = pick (eqb (k .count) 0) (refusedStart c 13) (storing c id a k (passed (sqAt c id) (k .count)))
+abbrev startOf : Controller → Memory → ℕ → Arbiter → Taken → Outcome
+startOf c m id a k = pick (eqb (k .count) 0) (refusing c m 13) (storing c m id a k (passed (sqAt c id) (k .count)))
 
-module _ (c : Controller) (id : ℕ) (a : Arbiter) where
-  abbrev ring : Ring
-  ring = sqAt c id .ring
+module _ (c : Controller) (m : Memory) (id : ℕ) (a : Arbiter) where
+  abbrev r : Ring
+  r = sqAt c id .ring
 
   start-one : (e : Submission) (v : ℕ) (x : TakenOne)
-      → startOf c id a (ofOne (single id (ring .head) e v) x) ≡ withOne c (oneTaken c id a e v) x
+      → startOf c m id a (ofOne (single id (r .head) e v) x) ≡ withOne c m (oneTaken c m id a e v) x
   unfolding oneTaken
   start-one e v NoneFree = refl
   start-one e v (Tag t left) = rw set-set
 
   start-pair : (e f : Submission) (v : ℕ) (x : TakenTwo)
-      → startOf c id a (ofTwo (double id (ring .head) e f v) x) ≡ withTwo c (pairTaken c id a e f v) x
+      → startOf c m id a (ofTwo (double id (r .head) e f v) x) ≡ withTwo c m (pairTaken c m id a e f v) x
   unfolding pairTaken
   start-pair e f v TooFew = refl
   start-pair e f v (Tags t u left) = refl
 
-  module _ (m : List ℕ) where
-    start-head : (h : Head) → headOf m id ring ≡ h
-        → startOf c id a (takenOf (c .commands) (c .free) id (ring .head) h) ≡ takeFrom c m (Queue id a)
-    unfolding takenAlone takenBoth takenOf takeOne takePair
-    start-head (One e) p = let w = head-one m id ring p in rw (w .0, ← w .1) (start-one e _ (takenOne (c .free)))
-    start-head (Pair e f) p = let w = head-pair m id ring p in rw (w .0, ← w .1, ← w .2) (start-pair e f _ (takenTwo (c .free)))
+  start-head : (h : Head) → headOf m id r ≡ h
+      → startOf c m id a (takenOf (c .commands) (c .free) id (r .head) h) ≡ takeFrom c m (Queue id a)
+  unfolding takenAlone takenBoth takenOf takeOne takePair
+  start-head (One e) p = let w = head-one m id r p in rw (w .0, ← w .1) (start-one e _ (takenOne (c .free)))
+  start-head (Pair e f) p = let w = head-pair m id r p in rw (w .0, ← w .1, ← w .2) (start-pair e f _ (takenTwo (c .free)))
 
-    module _ {h : Head} (p : h ≡ headOf m id ring) {k : Taken} (q : k ≡ takenOf (c .commands) (c .free) id (ring .head) h) where
-      pub start-too-few : k .count ≡ 0 → refusedStart c 13 ≡ takeFrom c m (Queue id a)
-      start-too-few z = sym (pick-yes _ _ (eq-eqb (k .count) 0 z)) ∙ ap (startOf c id a) q ∙ start-head h (sym p)
+  module _ {h : Head} (p : h ≡ headOf m id r) {k : Taken} (q : k ≡ takenOf (c .commands) (c .free) id (r .head) h) where
+    pub start-too-few : k .count ≡ 0 → refusing c m 13 ≡ takeFrom c m (Queue id a)
+    start-too-few z = sym (pick-yes _ _ (eq-eqb (k .count) 0 z)) ∙ ap (startOf c m id a) q ∙ start-head h (sym p)
 
-      pub start-taken : (k .count ≡ 0 → ⊥) → {s : SubmissionQueue} → s ≡ passed (sqAt c id) (k .count)
-          → storing c id a k s ≡ takeFrom c m (Queue id a)
-      start-taken n w = ap (storing c id a k) w ∙ sym (pick-no _ _ (ne-eqb (k .count) 0 n)) ∙ ap (startOf c id a) q ∙ start-head h (sym p)
+    pub start-taken : (k .count ≡ 0 → ⊥) → {s : SubmissionQueue} → s ≡ passed (sqAt c id) (k .count)
+        → storing c m id a k s ≡ takeFrom c m (Queue id a)
+    start-taken n w =
+        ap (storing c m id a k) w ∙ sym (pick-no _ _ (ne-eqb (k .count) 0 n)) ∙ ap (startOf c m id a) q ∙ start-head h (sym p)
 
 -- ---- the start
 
-module _ (c : Controller) (n : ℕ) {s : Survey} (e : s ≡ surveyed (c .sqs) n 16) where
+module _ (c : Controller) (n : ℕ) {s : Survey} (e : s ≡ surveyed c n 16) where
   pub outside-found : {b : Bool} → b ≡ someCq (c .cqs) (endsPast n) → (s .outside || b) ≡ outside c n
   unfolding surveyed
   outside-found f = rw (e, f) (sym (outside-halves c n))
@@ -157,8 +151,8 @@ module _ (c : Controller) (n : ℕ) {s : Survey} (e : s ≡ surveyed (c .sqs) n 
   unfolding surveyed candidates
   candidates-found = rw e
 
-module _ (c : Controller) (m : List ℕ) where
-  pub start-outside : outside c (length m) ≡ true → refusedStart c 5 ≡ start c m
+module _ (c : Controller) (m : Memory) where
+  pub start-outside : outside c (length m) ≡ true → refusing c m 5 ≡ start c m
   unfolding start settle
   start-outside o = rw o
 
@@ -167,9 +161,10 @@ module _ (c : Controller) (m : List ℕ) where
   start-chosen o e = rw (o, e)
 
 -- the queue chosen exists, and its ring is sound and lies in the memory
-pub ready : (c : Controller) (n : ℕ) → Valid c → outside c n ≡ false → {id : ℕ} {a : Arbiter} → choice (c .arbiter) (candidates c) ≡ Queue id a
+pub ready : (c : Controller) (n : ℕ) → Valid c → outside c n ≡ false → {id : ℕ} {a : Arbiter}
+    → choice (c .arbiter) (candidates c) ≡ Queue id a
     → (id < 16) × Inside n (sqAt c id .ring)
 ready c n v o {id} e =
     let k = chosen c e in
-    let h = candidate-here (sqAt c id) (k .1) in
-    (k .0, record { ok = v .sq-ok id h; within = sq-inside c n o id (k .0) h })
+    let h = candidate-here c id (k .1) in
+    (k .0, record { ok = v .sq-ok id h; within = ring-inside v o (ring.sq id) h })

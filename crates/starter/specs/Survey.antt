@@ -1,33 +1,27 @@
 -- What one walk over the submission queues finds.
 use Prim.Native.Nat.{ℕ, _+_, _^_, _<_}
-use mathlib.Core.Bool.{Bool, _&&_}
-use mathlib.Core.List.{List}
+use mathlib.Core.Bool.{Bool}
 use mathlib.Core.Path.{_≡_}
-use lib.Dec.{eqb}
-use lib.ListN.{getD}
 use Rattle.bits.specs.Bits.{maskOf, someBelow}
 use Rattle.arbiter.specs.declared.Candidates.{Candidates}
-use Rattle.controller.specs.declared.SubmissionQueue.{SubmissionQueue}
-use Rattle.controller.specs.State.{noSq}
-use Rattle.controller.specs.Starting.{candidate}
-use Rattle.queues.specs.Rings.{existing, endsPast}
+use Rattle.controller.specs.declared.Controller.{Controller}
+use Rattle.controller.specs.State.{sqAt}
+use Rattle.controller.specs.Rings.{existing, endsPast}
+use Rattle.controller.specs.Starting.{candidateAt, classAt}
 use Rattle.starter.specs.declared.survey.Survey.{Survey}
 
-abbrev pub candidateOf : ℕ → SubmissionQueue → Bool
-candidateOf class q = candidate q && eqb (q .class) class
-
--- the first k queues, in n bytes of memory
-unfoldable pub surveyed : List SubmissionQueue → ℕ → ℕ → Survey
-surveyed qs n k =
+-- the first k queues of a controller, in n bytes of memory
+unfoldable pub surveyed : Controller → ℕ → ℕ → Survey
+surveyed c n k =
     record {
-      outside = someBelow k (λ i. existing (endsPast n) 64 (getD qs i noSq .ring));
+      outside = someBelow k (λ i. existing (endsPast n) 64 (sqAt c i .ring));
       candidates =
           record {
-            all = maskOf (λ i. candidate (getD qs i noSq)) k;
-            urgent = maskOf (λ i. candidateOf 0 (getD qs i noSq)) k;
-            high = maskOf (λ i. candidateOf 1 (getD qs i noSq)) k;
-            medium = maskOf (λ i. candidateOf 2 (getD qs i noSq)) k;
-            low = maskOf (λ i. candidateOf 3 (getD qs i noSq)) k;
+            all = maskOf (candidateAt c) k;
+            urgent = maskOf (classAt c 0) k;
+            high = maskOf (classAt c 1) k;
+            medium = maskOf (classAt c 2) k;
+            low = maskOf (classAt c 3) k;
           };
     }
 

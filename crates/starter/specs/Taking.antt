@@ -7,6 +7,7 @@ use Rattle.bits.specs.declared.TakenOne.{TakenOne}
 use Rattle.bits.specs.declared.TakenOne.the-variants.{Tag, NoneFree}
 use Rattle.bits.specs.declared.TakenTwo.{TakenTwo}
 use Rattle.bits.specs.declared.TakenTwo.the-variants.{Tags, TooFew}
+use Rattle.le.specs.Memory.{Memory}
 use Rattle.entry.specs.declared.submission.Submission.{Submission}
 use Rattle.ring.specs.Slots.{next}
 use Rattle.controller.specs.declared.Ring.{Ring}
@@ -21,7 +22,7 @@ use Rattle.starter.specs.declared.head.Head.the-variants.{One, Pair}
 use Rattle.starter.specs.declared.take.Taken.{Taken}
 
 -- what stands at the head of queue id's ring in a memory
-unfoldable pub headOf : List ℕ → ℕ → Ring → Head
+unfoldable pub headOf : Memory → ℕ → Ring → Head
 headOf m id r =
     let e = entryAt m r (r .head) in pick (isPair id r m) (Pair e (entryAt m r (next (r .size) (r .head)))) (One e)
 

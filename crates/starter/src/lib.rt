@@ -1,7 +1,8 @@
 // Starting commands.
 ghost use mathlib.Core.Path.{_≡_};
-ghost use Rattle.controller.specs.Starting.{refusedStart};
+ghost use Rattle.controller.specs.Answers.{refusing};
 ghost use Rattle.controller.specs.Calls.{Reachable, perform, ofStart, start as startCall};
+ghost use Rattle.le.specs.Memory.{Memory};
 use crate::head::head_of;
 use crate::survey::survey_of;
 use crate::take::take;
@@ -10,7 +11,7 @@ use arbiter::Chosen;
 use controller::Controller;
 use controller::Start;
 use controller::Started;
-use queues::cqs_outside;
+use queues::rings::cqs_outside;
 
 mod head;
 mod survey;
@@ -18,7 +19,7 @@ mod take;
 mod verdict;
 
 fn refused(c: Controller, number: u64) -> Start
-    ensures { λ r. ⌜ r ≡ refusedStart c number ⌝ }
+    ensures { λ r. ⌜ ((m : Memory) → ofStart m r ≡ refusing c m number) ⌝ }
 {
     Start {
         answer: Started::Refused(number),

@@ -1,14 +1,13 @@
 // What one walk over the submission queues finds.
 ghost use mathlib.Core.Path.{_≡_};
-ghost use mathlib.Core.List.{List};
-ghost use Prim.Native.Nat.{_+_, _<_, _^_};
-ghost use lib.ListN.{getD};
-ghost use Rattle.controller.specs.State.{noSq};
-ghost use Rattle.controller.specs.Starting.{candidate};
+ghost use Prim.Native.Nat.{ℕ, _+_, _<_, _^_};
+ghost use Rattle.controller.specs.State.{sqAt};
+ghost use Rattle.controller.specs.Starting.{candidateAt};
 ghost use Rattle.starter.specs.Survey.{surveyed, Grown, Below};
 use arbiter::Candidates;
+use controller::Controller;
 use controller::SubmissionQueue;
-use queues::ring_outside;
+use queues::rings::ring_outside;
 
 // Whether an existing ring does not lie wholly in the memory, and which queues are candidates.
 pub struct Survey {
@@ -16,8 +15,9 @@ pub struct Survey {
     pub candidates: Candidates,
 }
 
+// Whether a queue of a controller is a candidate.
 fn is_candidate(q: SubmissionQueue) -> bool
-    ensures { λ r. ⌜ r ≡ candidate q ⌝ }
+    ensures { λ r. ⌜ ((c : Controller) (i : ℕ) → q ≡ sqAt c i → r ≡ candidateAt c i) ⌝ }
 {
     let r = q.ring;
     r.exists & (!q.marked & (r.head != r.tail))
@@ -34,7 +34,7 @@ fn with_bit(mask: u16, i: usize, passes: bool) -> u16
 // The survey of the queues below i, with queue i.
 fn with_queue(s: Survey, q: SubmissionQueue, i: usize, n: u64) -> Survey
     requires { ⌜ (i < 16) × Below (s .candidates) i ⌝ }
-    ensures { λ r. ⌜ ((qs : List SubmissionQueue) → s ≡ surveyed qs n i → q ≡ getD qs i noSq → r ≡ surveyed qs n (i + 1)) ⌝ }
+    ensures { λ r. ⌜ ((c : Controller) → s ≡ surveyed c n i → q ≡ sqAt c i → r ≡ surveyed c n (i + 1)) ⌝ }
 {
     let c = s.candidates;
     let outside = s.outside | ring_outside(q.ring, 64, n);
@@ -56,9 +56,9 @@ fn with_queue(s: Survey, q: SubmissionQueue, i: usize, n: u64) -> Survey
     }
 }
 
-// The survey of all queues, in n bytes of memory.
+// The survey of a controller with these queues, in n bytes of memory.
 pub fn survey_of(sqs: [SubmissionQueue; 16], n: u64) -> Survey
-    ensures { λ r. ⌜ r ≡ surveyed sqs n 16 ⌝ }
+    ensures { λ r. ⌜ ((c : Controller) → c .sqs ≡ sqs → r ≡ surveyed c n 16) ⌝ }
 {
     let mut s = Survey {
         outside: false,

@@ -8,7 +8,8 @@ use Rattle.dialogue.proofs.feed.Statement.{statement}
 use Rattle.dialogue.proofs.feed.Tie as tie
 
 abbrev Inv-loop : tie.InvT-loop
-Inv-loop memory₀ chunk line₀ out₀ next₀ memory line out next = Kept next × (next .at ≤ length chunk) × (length memory ≡ length memory₀) × (length line ≡ length line₀) × (length out ≡ length out₀)
+Inv-loop memory₀ chunk line₀ out₀ next₀ memory line out next =
+    Kept next × (next .at ≤ length chunk) × (length memory ≡ length memory₀) × (length line ≡ length line₀) × (length out ≡ length out₀)
 
 abbrev μ-loop : tie.MeasureT-loop
 μ-loop memory₀ chunk line₀ out₀ next₀ memory line out next = length chunk - next .at

@@ -7,4 +7,6 @@ use Rattle.dialogue.proofs.with_room.Tie as tie
 
 pub with-room-spec : {M : Type 1} → statement M
 with-room-spec =
-    tie.close (tie.spec (λ c. search needs) (λ c. sym (length-take-le _ _ (search needs))) (λ c κs. search needs) (λ c. search needs) (λ c. search needs))
+    tie.close
+    (tie.spec (λ c. search needs) (λ c. sym (length-take-le _ _ (search needs))) (λ c κs. search needs) (λ c. search needs)
+    (λ c. search needs))

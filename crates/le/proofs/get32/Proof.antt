@@ -8,4 +8,5 @@ returns : tie.Need-returns
 returns c = omega (arith, leAt-add 2 2 (c .before .before .before .args .b .now) (c .before .before .before .args .at))
 
 pub get32-spec : {M : Type 1} → statement M
-get32-spec = tie.close (tie.spec (λ c κs. search needs) (λ c. search needs) (λ c κs. search needs) (λ c. search needs) (λ c. search needs) returns)
+get32-spec =
+    tie.close (tie.spec (λ c κs. search needs) (λ c. search needs) (λ c κs. search needs) (λ c. search needs) (λ c. search needs) returns)

@@ -14,7 +14,8 @@ abbrev μ-loop : tie.MeasureT-loop
 μ-loop run busy n posted first c₀ digest₀ i₀ c digest i = busy - i
 
 loop-again : tie.Need-loop-again Inv-loop μ-loop
-loop-again c = (by-call [] (headWrite _ _) (c .before .before .before .before .loop .inv .0) (c .before .before .head-write .ensures []), search needs)
+loop-again c =
+    (by-call [] (headWrite _ _) (c .before .before .before .before .loop .inv .0) (c .before .before .head-write .ensures []), search needs)
 
 pub release-spec : {M : Type 1} → statement M
 release-spec =

@@ -14,7 +14,8 @@ abbrev μ-loop : tie.MeasureT-loop
 μ-loop run busy n tail first c₀ digest₀ i₀ c digest i = busy - i
 
 loop-again : tie.Need-loop-again Inv-loop μ-loop
-loop-again c = (by-call [] (tailWrite _ _) (c .before .before .before .before .loop .inv .0) (c .before .before .tail-write .ensures []), search needs)
+loop-again c =
+    (by-call [] (tailWrite _ _) (c .before .before .before .before .loop .inv .0) (c .before .before .tail-write .ensures []), search needs)
 
 pub submit-spec : {M : Type 1} → statement M
 submit-spec =

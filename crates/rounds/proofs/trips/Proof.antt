@@ -10,27 +10,43 @@ use Rattle.rounds.proofs.trips.Statement.{statement}
 use Rattle.rounds.proofs.trips.Tie as tie
 
 abbrev Inv-loop2 : tie.InvT-loop2
-Inv-loop2 run memory₀ n finishes last-tag c₀ digest₀ tag₀ i k₀ memory c digest tag k = Reachable c × (k ≤ finishes) × (i < n) × (finishes ≤ 2) × (length memory ≡ length memory₀)
+Inv-loop2 run memory₀ n finishes last-tag c₀ digest₀ tag₀ i k₀ memory c digest tag k =
+    Reachable c × (k ≤ finishes) × (i < n) × (finishes ≤ 2) × (length memory ≡ length memory₀)
 
 abbrev μ-loop2 : tie.MeasureT-loop2
 μ-loop2 run memory₀ n finishes last-tag c₀ digest₀ tag₀ i k₀ memory c digest tag k = finishes - k
 
 abbrev Inv-loop : tie.InvT-loop
-Inv-loop run memory₀ n finishes last-tag c₀ digest₀ tag₀ i₀ memory c digest tag i = Reachable c × (i ≤ n) × (finishes ≤ 2) × (length memory ≡ length memory₀)
+Inv-loop run memory₀ n finishes last-tag c₀ digest₀ tag₀ i₀ memory c digest tag i =
+    Reachable c × (i ≤ n) × (finishes ≤ 2) × (length memory ≡ length memory₀)
 
 abbrev μ-loop : tie.MeasureT-loop
 μ-loop run memory₀ n finishes last-tag c₀ digest₀ tag₀ i₀ memory c digest tag i = n - i
 
 loop2-holds : tie.Need-loop2-holds Inv-loop2 μ-loop2 Inv-loop μ-loop
-loop2-holds c =
-    (by-call _ start (c .before .before .before .before .before .before .loop .inv .0) (c .before .before .before .start .ensures), search needs, search needs, search needs, search needs)
+loop2-holds c = (
+  by-call _ start (c .before .before .before .before .before .before .loop .inv .0)
+      (c .before .before .before .start .ensures),
+  search needs,
+  search needs,
+  search needs,
+  search needs,
+)
 
 loop2-again : tie.Need-loop2-again Inv-loop2 μ-loop2 Inv-loop μ-loop
-loop2-again c =
-    (by-call _ (finish _ _ _) (c .before .before .before .before .before .before .before .before .before .loop2 .inv .0) (c .before .before .before .before .before .before .finish .ensures), search needs, search needs, search needs, search needs)
+loop2-again c = (
+  by-call _ (finish _ _ _) (c .before .before .before .before .before .before .before .before .before .loop2 .inv .0)
+      (c .before .before .before .before .before .before .finish .ensures),
+  search needs,
+  search needs,
+  search needs,
+  search needs,
+)
 
 add-k : tie.Need-add-k Inv-loop2 μ-loop2 Inv-loop μ-loop
-add-k c = let l = c .before .before .before .before .before .before .before .before in omega (arith, l .loop2-test .taken, l .before .loop2 .inv .3)
+add-k c =
+    let l = c .before .before .before .before .before .before .before .before in
+    omega (arith, l .loop2-test .taken, l .before .loop2 .inv .3)
 
 loop2-less : tie.Need-loop2-less Inv-loop2 μ-loop2 Inv-loop μ-loop
 loop2-less c = let l = c .before .before .before .before .before .before .before .before in omega (arith, l .loop2-test .taken)

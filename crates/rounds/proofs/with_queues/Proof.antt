@@ -20,7 +20,9 @@ loop-holds c = (rw (c .before .new .ensures) (by-new _ _), search needs, search 
 loop-again : tie.Need-loop-again Inv-loop μ-loop
 loop-again c = (
   by-call _ (createSq _ _ _ _ _)
-      (by-call _ (createCq _ _ _) (c .before .before .before .before .before .before .before .before .before .before .before .loop .inv .0) (c .before .before .before .before .create-cq .ensures))
+      (by-call _ (createCq _ _ _)
+      (c .before .before .before .before .before .before .before .before .before .before .before .loop .inv .0)
+      (c .before .before .before .before .create-cq .ensures))
       (c .before .create-sq .ensures),
   search needs,
   search needs,

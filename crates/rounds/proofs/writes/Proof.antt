@@ -14,7 +14,8 @@ abbrev μ-loop : tie.MeasureT-loop
 μ-loop run n c₀ digest₀ i₀ c digest i = n - i
 
 loop-again : tie.Need-loop-again Inv-loop μ-loop
-loop-again c = (by-call [] (tailWrite _ _) (c .before .before .before .before .loop .inv .0) (c .before .before .tail-write .ensures []), search needs)
+loop-again c =
+    (by-call [] (tailWrite _ _) (c .before .before .before .before .loop .inv .0) (c .before .before .tail-write .ensures []), search needs)
 
 pub writes-spec : {M : Type 1} → statement M
 writes-spec =

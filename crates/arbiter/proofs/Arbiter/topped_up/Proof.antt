@@ -5,7 +5,8 @@ use Rattle.arbiter.proofs.Arbiter.topped_up.Tie as tie
 
 returns : tie.Need-returns
 returns c =
-    topped-refilled _ _ (c .before .before .before .some-waits .ensures) (c .before .before .some-ready .ensures) (c .refilled .ensures) (c .before .if1 .taken)
+    topped-refilled _ _ (c .before .before .before .some-waits .ensures) (c .before .before .some-ready .ensures) (c .refilled .ensures)
+    (c .before .if1 .taken)
 
 returns-2 : tie.Need-returns-2
 returns-2 c = topped-kept _ _ (c .before .before .some-waits .ensures) (c .before .some-ready .ensures) (c .if1 .left)

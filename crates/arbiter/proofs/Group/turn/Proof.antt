@@ -8,7 +8,8 @@ use Rattle.arbiter.proofs.Group.turn.Tie as tie
 
 returns : tie.Need-returns
 returns c =
-    c .serve .ensures ∙ turn-held _ _ _ (c .before .before .before .is-candidate .ensures) (c .before .before .above-zero .ensures) (c .before .if1 .taken)
+    c .serve .ensures
+    ∙ turn-held _ _ _ (c .before .before .before .is-candidate .ensures) (c .before .before .above-zero .ensures) (c .before .if1 .taken)
 
 returns-2 : tie.Need-returns-2
 returns-2 c =

@@ -27,7 +27,8 @@ sub-t12 c = omega (arith, ready-parts _ _ (isReady (c .before .before .before .b
 returns-3 : tie.Need-returns-3
 returns-3 c =
     ap (charged _) (sym (c .before .id .given .1) ∙ c .before .before .before .turn .ensures)
-    ∙ level-turned _ _ _ (c .before .before .before .before .level-full .ensures) (isReady (c .before .before .before .before .before .before))
+    ∙ level-turned _ _ _ (c .before .before .before .before .level-full .ensures)
+    (isReady (c .before .before .before .before .before .before))
 
 pub turn-spec : {M : Type 1} → statement M
 turn-spec =

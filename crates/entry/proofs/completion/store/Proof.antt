@@ -13,14 +13,16 @@ use Rattle.entry.proofs.completion.store.Tie as tie
 
 -- six stores of fields, one after the other, put the entry in
 joined : (l : List ℕ) (result sqhd sqid cid status tag : ℕ) → 16 ≤ length l
-    → sets (sets (sets (sets (sets (sets l 0 (le 4 result)) 4 (le 4 0)) 8 (le 2 sqhd)) 10 (le 2 sqid)) 12 (le 2 cid)) 14 (le 2 (2 * status + tag % 2))
+    → sets (sets (sets (sets (sets (sets l 0 (le 4 result)) 4 (le 4 0)) 8 (le 2 sqhd)) 10 (le 2 sqid)) 12 (le 2 cid)) 14
+    (le 2 (2 * status + tag % 2))
     ≡ put l 0 (completionBytes (completion result sqhd sqid cid status) tag)
 unfolding le completionBytes
 joined l result sqhd sqid cid status tag h = sets-put l 0 (completionBytes (completion result sqhd sqid cid status) tag) h
 
 returns : tie.Need-returns
 returns c =
-    let s = c .before .before .before .before .before .before .before .before .before .before .before .before .before .before .before .before .before .before .before .before .before .before .before .before .before in
+    let r = c .before .before .before .before .before .before .before .before .before .before .before .before in
+    let s = r .before .before .before .before .before .before .before .before .before .before .before .before .before in
     cc (joined _ _ _ _ _ _ _ (s .pre .0))
 
 pub store-spec : {M : Type 1} → statement M

@@ -12,7 +12,8 @@ returns c = let e = lt-ltb _ _ (c .if1 .taken) in (simp e, simp e)
 returns-2 : tie.Need-returns-2
 unfolding submissionRead submissionNumbers submissionAt settle
 returns-2 c =
-    let e = le-ltb _ _ (c .before .before .before .before .before .before .before .before .before .before .before .before .before .if1 .left) in
+    let e = le-ltb _ _
+    (c .before .before .before .before .before .before .before .before .before .before .before .before .before .if1 .left) in
     (simp e (cc), simp e (cc))
 
 pub read-spec : {M : Type 1} → statement M

@@ -15,7 +15,8 @@ use Rattle.entry.proofs.submission.store.Tie as tie
 -- the three groups of stores, one after the other, put the entry in
 joined : (l : List ℕ) (e : Submission) → 64 ≤ length l
     → sets
-    (sets (sets l 0 (le 1 (e .opc) ++ le 1 (flags e) ++ le 2 (e .cid) ++ le 4 (e .nsid) ++ le 8 0)) 16 (le 8 (e .mptr) ++ le 8 (e .prp1) ++ le 8 (e .prp2) ++ le 8 (e .slba)))
+    (sets (sets l 0 (le 1 (e .opc) ++ le 1 (flags e) ++ le 2 (e .cid) ++ le 4 (e .nsid) ++ le 8 0)) 16
+    (le 8 (e .mptr) ++ le 8 (e .prp1) ++ le 8 (e .prp2) ++ le 8 (e .slba)))
     48
     (le 2 (e .nlb) ++ le 2 (e .cdw12) ++ le 4 (e .cdw13) ++ le 4 (e .cdw14) ++ le 4 (e .cdw15))
     ≡ put l 0 (submissionBytes e)

@@ -9,7 +9,8 @@ use Rattle.entry.proofs.submission.store_head.Tie as tie
 
 -- five stores of fields, one after the other, are one
 joined : (l : List ℕ) (o f i n : ℕ)
-    → sets (sets (sets (sets (sets l 0 (le 1 o)) 1 (le 1 f)) 2 (le 2 i)) 4 (le 4 n)) 8 (le 8 0) ≡ sets l 0 (le 1 o ++ le 1 f ++ le 2 i ++ le 4 n ++ le 8 0)
+    → sets (sets (sets (sets (sets l 0 (le 1 o)) 1 (le 1 f)) 2 (le 2 i)) 4 (le 4 n)) 8 (le 8 0) ≡ sets l 0
+    (le 1 o ++ le 1 f ++ le 2 i ++ le 4 n ++ le 8 0)
 unfolding le
 joined l o f i n = refl
 

@@ -9,13 +9,15 @@ use Rattle.ring.proofs.reader.count.Statement.{statement}
 use Rattle.ring.proofs.reader.count.Tie as tie
 
 -- n entries match before the wrap, and n′ of those after it
-module _ (ring : List ℕ) (size head tag n : ℕ) (some : 0 < head) (low : head < size) (is : n ≡ readCount (size - head) ring size head tag) where
+module _ (ring : List ℕ) (size head tag n : ℕ) (some : 0 < head) (low : head < size)
+    (is : n ≡ readCount (size - head) ring size head tag) where
   ends-before : n < size - head → n ≡ readCount (size - 1) ring size head tag
   ends-before h =
       let all : size - 1 ≡ size - head + (head - 1) = omega arith in
       rw all (is ∙ sym (count-before ring size (size - head) (head - 1) head tag (omega arith)))
 
-  goes-over : (n′ : ℕ) → n ≡ size - head → n′ ≡ readCount (head - 1) ring size 0 (1 - tag) → n + n′ ≡ readCount (size - 1) ring size head tag
+  goes-over : (n′ : ℕ) → n ≡ size - head → n′ ≡ readCount (head - 1) ring size 0 (1 - tag)
+      → n + n′ ≡ readCount (size - 1) ring size head tag
   goes-over n′ e h =
       let j = size - head - 1 in
       let ahead : size - head ≡ suc j = omega arith in
@@ -31,13 +33,15 @@ returns c =
 returns-2 : tie.Need-returns-2
 returns-2 c =
     let a = c .before .before .before .before .args in
-    ends-before (a .ring .now) (a .size) (a .head) (a .tag) _ (search needs) (search needs) (c .before .run2 .ensures .1 (a .size) (omega arith)) (c .if2 .taken)
+    ends-before (a .ring .now) (a .size) (a .head) (a .tag) _ (search needs) (search needs)
+    (c .before .run2 .ensures .1 (a .size) (omega arith)) (c .if2 .taken)
 
 returns-3 : tie.Need-returns-3
 returns-3 c =
     let r = c .before .before .run2 in
     let a = c .before .before .before .before .before .args in
-    goes-over (a .ring .now) (a .size) (a .head) (a .tag) _ (search needs) (search needs) (r .ensures .1 (a .size) (omega arith)) _ (search needs) (c .run3 .ensures .1 (a .size) (omega arith))
+    goes-over (a .ring .now) (a .size) (a .head) (a .tag) _ (search needs) (search needs) (r .ensures .1 (a .size) (omega arith)) _
+    (search needs) (c .run3 .ensures .1 (a .size) (omega arith))
 
 pub count-spec : {M : Type 1} → statement M
 count-spec =

@@ -21,15 +21,22 @@ returns : tie.Need-returns Inv-loop μ-loop
 returns c =
     let l = c .before .before .before in
     let a = l .before .before .args in
-    let miss : tagIn (a .ring .now) (a .slot + l .loop .n) ≡ a .tag → ⊥ = λ e. c .if1 .taken (c .before .tag-in .ensures ∙ e) in
-    (search needs, λ size h. sym (l .loop .inv .1 size h ∙ run-stop (a .ring .now) size (a .most) (l .loop .n) (a .slot + l .loop .n) (a .tag) (search needs) miss))
+    let miss : tagIn (a .ring .now) (a .slot + l .loop .n) ≡ a .tag → ⊥ = λ e. c .if1 .taken (c .before .tag-in .ensures ∙ e) in (
+      search needs,
+      λ size h. sym
+          (l .loop .inv .1 size h
+          ∙ run-stop (a .ring .now) size (a .most) (l .loop .n) (a .slot + l .loop .n) (a .tag) (search needs) miss),
+    )
 
 loop-again : tie.Need-loop-again Inv-loop μ-loop
 loop-again c =
     let l = c .before .before .before in
     let a = l .before .before .args in
-    let hit : tagIn (a .ring .now) (a .slot + l .loop .n) ≡ a .tag = sym (c .before .tag-in .ensures) ∙ c .if1 .left in
-    (search needs, λ size h. l .loop .inv .1 size h ∙ run-step (a .ring .now) size (a .most) (l .loop .n) (a .slot) (a .tag) (search needs) h hit)
+    let hit : tagIn (a .ring .now) (a .slot + l .loop .n) ≡ a .tag = sym (c .before .tag-in .ensures) ∙ c .if1 .left in (
+      search needs,
+      λ size h. l .loop .inv .1 size h ∙ run-step (a .ring .now) size (a .most) (l .loop .n) (a .slot) (a .tag)
+          (search needs) h hit,
+    )
 
 returns-2 : tie.Need-returns-2 Inv-loop μ-loop
 returns-2 c =

@@ -19,7 +19,8 @@ cast-t14 c =
 returns-2 : tie.Need-returns-2
 returns-2 c =
     let t = c .before .before .before in
-    alone-is _ _ _ _ _ (sym (t .before .before .take-one .ensures) ∙ t .tag .given .1) (c .before .in-use .ensures) (c .verdict-one .ensures)
+    alone-is _ _ _ _ _ (sym (t .before .before .take-one .ensures) ∙ t .tag .given .1) (c .before .in-use .ensures)
+    (c .verdict-one .ensures)
 
 pub take-one-spec : {M : Type 1} → statement M
 take-one-spec =

@@ -20,7 +20,8 @@ loop-holds : tie.Need-loop-holds Inv-loop μ-loop
 loop-holds c = all-to-see _ _ _ _ _ (c .fits .free .fits)
 
 -- the tag that a turn looks at
-tag : (c : tie.In-loop Inv-loop μ-loop) → let left = c .before .loop .left in OneTaken left (trailingZeros 64 left) (left - 2 ^ trailingZeros 64 left)
+tag : (c : tie.In-loop Inv-loop μ-loop)
+    → let left = c .before .loop .left in OneTaken left (trailingZeros 64 left) (left - 2 ^ trailingZeros 64 left)
 tag c = lowest-to-see _ _ _ _ _ (c .before .loop .inv) (c .loop-test .taken)
 
 cast-k : tie.Need-cast-k Inv-loop μ-loop

@@ -23,14 +23,26 @@ unfolding verdictPair
 returns-4 c x y e =
     let p = c .before .before .before in
     let b = p .before .before .before in
-    simp (b .before .before .before .before .before .before .before .if1 .left, b .if2 .left, p .if3 .left, cids-clash x y _ e (c .if4 .taken))
+    simp (
+      b .before .before .before .before .before .before .before .if1 .left,
+      b .if2 .left,
+      p .if3 .left,
+      cids-clash x y _ e
+          (c .if4 .taken),
+    )
 
 returns-5 : tie.Need-returns-5
 unfolding verdictPair
 returns-5 c x y e =
     let p = c .before .before .before in
     let b = p .before .before .before in
-    simp (b .before .before .before .before .before .before .before .if1 .left, b .if2 .left, p .if3 .left, cids-clash x y _ e (c .if4 .left))
+    simp (
+      b .before .before .before .before .before .before .before .if1 .left,
+      b .if2 .left,
+      p .if3 .left,
+      cids-clash x y _ e
+          (c .if4 .left),
+    )
 
 pub verdict-pair-spec : {M : Type 1} → statement M
 verdict-pair-spec = tie.close (tie.spec returns returns-2 returns-3 returns-4 returns-5)

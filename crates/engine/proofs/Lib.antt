@@ -1,4 +1,0 @@
-pub mod Answers
-pub mod Doorbells
-pub mod Creates
-pub mod Finishes

@@ -1,4 +1,0 @@
-pub mod Rings
-pub mod Refusals
-pub mod Halves
-pub mod Doorbells
