@@ -55,7 +55,8 @@ fn refusal(bytes: usize, size: u64, head: u64) -> u64
     if wrong_size(size) {
         return 3;
     }
-    if (bytes as u64) < 16 * size {
+    let needed = 16 * size;
+    if (bytes as u64) < needed {
         return 5;
     }
     if size <= head {

@@ -28,9 +28,9 @@ returns-4 c =
     let b = c .before .before in
     rw (← b .before .wrong-size .ensures, b .if1 .left, le-ltb _ _ (c .before .if2 .left), lt-leb _ _ (c .if3 .left))
 
-mul-if2 : tie.Need-mul-if2
-mul-if2 c =
+mul-needed : tie.Need-mul-needed
+mul-needed c =
     record { fits = omega (arith, range 2 1024 (c .before .before .args .size) (sym (c .before .wrong-size .ensures) ∙ c .if1 .left) .1) }
 
 pub refusal-spec : {M : Type 1} → statement M
-refusal-spec = tie.close (tie.spec (λ c κs. search needs) returns mul-if2 returns-2 returns-3 returns-4)
+refusal-spec = tie.close (tie.spec (λ c κs. search needs) returns mul-needed returns-2 returns-3 returns-4)
