@@ -16,25 +16,25 @@ pub enum Remainder {
 
 // Queues that take turns: who holds the turn, and what is left of it.
 pub struct Group {
-    holder: u32,
-    remainder: Remainder,
+    pub holder: u32,
+    pub remainder: Remainder,
 }
 
 // A priority level of the weighted mechanism: a group that pays for its turns.
 pub struct Level {
-    group: Group,
-    credit: u32,
+    pub group: Group,
+    pub credit: u32,
 }
 
 // Mechanism 0, round robin, or 1, weighted with urgent; its feature word; and whose turn it is.
 pub struct Arbiter {
-    weighted: bool,
-    word: u32,
+    pub weighted: bool,
+    pub word: u32,
     // all queues under mechanism 0, the urgent ones under mechanism 1
-    group: Group,
-    high: Level,
-    medium: Level,
-    low: Level,
+    pub group: Group,
+    pub high: Level,
+    pub medium: Level,
+    pub low: Level,
 }
 
 // The candidates among all queues, and among those of each class.

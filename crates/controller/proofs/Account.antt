@@ -11,7 +11,7 @@ use Rattle.le.specs.Memory.{Memory, part}
 use Rattle.controller.specs.declared.SubmissionQueue.{SubmissionQueue}
 use Rattle.controller.specs.declared.CompletionQueue.{CompletionQueue}
 use Rattle.controller.specs.declared.Command.{Command}
-use Rattle.controller.specs.declared.Controller.{Controller}
+use Rattle.controller.specs.Controller.{Controller}
 use Rattle.controller.specs.State.{noSq, noCq, noCommand, sqAt, cqAt, commandAt, freshController}
 use Rattle.controller.specs.Answers.{Outcome}
 use Rattle.controller.specs.Calls.{Call}

@@ -16,7 +16,7 @@ use Rattle.ring.proofs.Phase.{new, move}
 use Rattle.ring.specs.Reader.{tagIn}
 use Rattle.controller.specs.declared.SubmissionQueue.{SubmissionQueue}
 use Rattle.controller.specs.declared.CompletionQueue.{CompletionQueue}
-use Rattle.controller.specs.declared.Controller.{Controller}
+use Rattle.controller.specs.Controller.{Controller}
 use Rattle.controller.specs.State.{noSq, noCq, sqAt, cqAt, withSq, withCq}
 use Rattle.controller.specs.Create.{newCq, newSq}
 use Rattle.controller.specs.Doorbell.{mark, tailMoved, headMoved}

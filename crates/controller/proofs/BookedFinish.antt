@@ -16,7 +16,7 @@ use Rattle.entry.proofs.Completions.{Within}
 use Rattle.ring.specs.Slots.{distance}
 use Rattle.ring.proofs.Phase.{post, waiting-length}
 use Rattle.controller.specs.declared.Command.{Command}
-use Rattle.controller.specs.declared.Controller.{Controller}
+use Rattle.controller.specs.Controller.{Controller}
 use Rattle.controller.specs.State.{noCq, noCommand, cqAt, commandAt}
 use Rattle.controller.specs.Finishing.{cqOf, full, statusOf, released, unlinked, posted, finishedController, completionOf}
 use Rattle.controller.specs.Finishing.{postedMemory}

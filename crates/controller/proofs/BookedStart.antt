@@ -9,7 +9,7 @@ use Rattle.le.proofs.Parts.{part-getD}
 use Rattle.entry.specs.Submission.{submissionAt}
 use Rattle.ring.specs.Slots.{next}
 use Rattle.arbiter.specs.declared.Arbiter.{Arbiter}
-use Rattle.controller.specs.declared.Controller.{Controller}
+use Rattle.controller.specs.Controller.{Controller}
 use Rattle.controller.specs.State.{noSq, noCommand, sqAt}
 use Rattle.controller.specs.Starting.{entryAt, headEntry, nextEntry, command, oneTaken, pairTaken}
 use Rattle.controller.specs.Calls.{start}

@@ -15,7 +15,7 @@ use Rattle.arbiter.specs.Arbiter.{some, someWaits, choice, anyone}
 use Rattle.arbiter.specs.declared.Arbiter.{Arbiter}
 use Rattle.arbiter.specs.declared.Chosen.the-variants.{Queue, Nobody}
 use Rattle.arbiter.proofs.Choice.{Within, named, nobody}
-use Rattle.controller.specs.declared.Controller.{Controller}
+use Rattle.controller.specs.Controller.{Controller}
 use Rattle.controller.specs.State.{sqAt}
 use Rattle.controller.specs.Valid.{Valid}
 use Rattle.controller.specs.Starting.{candidateAt, classAt, candidates}

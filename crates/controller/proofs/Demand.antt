@@ -12,7 +12,7 @@ use Rattle.le.specs.Memory.{Memory, Bytes}
 use Rattle.ring.specs.Reader.{readSlots, found, readerRefusal, ringRead}
 use Rattle.ring.proofs.Phase.{counts, finds, reader-tag-in}
 use Rattle.ring.specs.declared.reader.Waiting.the-variants.{Count, Refused}
-use Rattle.controller.specs.declared.Controller.{Controller}
+use Rattle.controller.specs.Controller.{Controller}
 use Rattle.controller.specs.State.{cqAt, freshController}
 use Rattle.controller.specs.Answers.{Outcome}
 use Rattle.controller.specs.Calls.{Call, resultOf, Reachable, fresh, after}

@@ -2,6 +2,7 @@ pub mod Lists
 pub mod Outstanding
 pub mod Choosing
 pub mod Made
+pub mod Refusals
 pub mod Steps
 pub mod Unlinked
 pub mod Validity

@@ -13,7 +13,7 @@ use Rattle.bits.specs.Tags.{givenBack}
 use Rattle.bits.proofs.Tags.{OneTaken, TwoTaken}
 use Rattle.le.specs.Memory.{Memory}
 use Rattle.controller.specs.declared.Command.{Command}
-use Rattle.controller.specs.declared.Controller.{Controller}
+use Rattle.controller.specs.Controller.{Controller}
 use Rattle.controller.specs.State.{noCommand, commandAt, outstanding}
 use Rattle.controller.specs.Valid.{Valid}
 use Rattle.controller.specs.Starting.{oneTaken, pairTaken}

@@ -5,10 +5,9 @@ use borrow.Author.Tests.{ne-eqb}
 use Rattle.rules.specs.Rules.{settle}
 use Rattle.rules.proofs.Tables.{settle-refused, settle-accepted}
 use Rattle.le.specs.Memory.{Memory}
-use Rattle.controller.specs.declared.Controller.{Controller}
-use Rattle.controller.specs.State.{changed}
-use Rattle.controller.specs.Answers.{Outcome, refusing}
-use Rattle.controller.specs.Calls.{ofChanged}
+use Rattle.controller.specs.Controller.{Controller}
+use Rattle.controller.specs.Answers.{Outcome, outcome, refusing}
+use Rattle.controller.specs.Calls.{ofNumber}
 
 module _ (c : Controller) (m : Memory) (accept : Outcome) {n k : ℕ} (e : n ≡ k) where
   pub refused : (n ≡ 0 → ⊥) → refusing c m n ≡ settle k (refusing c m) accept
@@ -18,5 +17,5 @@ module _ (c : Controller) (m : Memory) (accept : Outcome) {n k : ℕ} (e : n ≡
   accepted h g = g ∙ sym (settle-accepted k (refusing c m) accept (sym e ∙ h))
 
   -- of an answer that is a refusal number
-  pub changed-refused : (n ≡ 0 → ⊥) → ofChanged m (changed c n) ≡ settle k (refusing c m) accept
-  changed-refused h = rw (ne-eqb n 0 h) (refused h)
+  pub number-refused : (n ≡ 0 → ⊥) → outcome (ofNumber n) c m ≡ settle k (refusing c m) accept
+  number-refused h = rw (ne-eqb n 0 h) (refused h)

@@ -1,7 +1,7 @@
 -- Lists of calls joined: the first calls, and then the others from the controller that the first leave. Assumes nothing.
 use mathlib.Core.List.{List, [], _∷_, _++_, foldl, foldl-append}
 use mathlib.Core.Path.{_≡_, refl, ap, _∙_}
-use Rattle.controller.specs.declared.Controller.{Controller}
+use Rattle.controller.specs.Controller.{Controller}
 use Rattle.controller.specs.Calls.{Reachable, after}
 use Rattle.controller.specs.Steps.{Given, Step, made, steps, final}
 

@@ -13,7 +13,7 @@ use Rattle.le.specs.Memory.{Memory}
 use Rattle.ring.specs.Slots.{distance}
 use Rattle.ring.proofs.Steps.{distance-ahead, distance-around}
 use Rattle.controller.specs.declared.Ring.{Ring}
-use Rattle.controller.specs.declared.Controller.{Controller}
+use Rattle.controller.specs.Controller.{Controller}
 use Rattle.controller.specs.State.{noSq, sqAt}
 use Rattle.controller.specs.Starting.{candidateAt, entryAt, isPair, passed, oneTaken, pairTaken}
 use Rattle.controller.specs.Valid.{Valid}

@@ -17,7 +17,7 @@ use Rattle.le.specs.Memory.{Memory, part, put, Bytes}
 use Rattle.entry.specs.Completion.{completionBytes}
 use Rattle.entry.specs.declared.completion.Completion.{Completion}
 use Rattle.ring.specs.Reader.{tagIn}
-use Rattle.controller.specs.declared.Controller.{Controller}
+use Rattle.controller.specs.Controller.{Controller}
 use Rattle.controller.specs.State.{noCq, cqAt, withCq, freshController}
 use Rattle.controller.specs.Answers.{done, Outcome, outcome, refusing}
 use Rattle.controller.specs.Create as create

@@ -16,7 +16,7 @@ use Rattle.entry.proofs.Completions.{completion-length}
 use Rattle.ring.specs.Reader.{slotIn}
 use Rattle.ring.proofs.Exact.{place}
 use Rattle.ring.proofs.Phase as phase
-use Rattle.controller.specs.declared.Controller.{Controller}
+use Rattle.controller.specs.Controller.{Controller}
 use Rattle.controller.specs.State.{cqAt, commandAt}
 use Rattle.controller.specs.Finishing as finishing
 use Rattle.controller.specs.Finishing.{cqOf, full, finishRefusal, completionOf, statusOf, finishedController, tailOf, postedMemory}

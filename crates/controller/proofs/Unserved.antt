@@ -17,7 +17,7 @@ use Rattle.arbiter.specs.Arbiter.{choice}
 use Rattle.arbiter.specs.declared.Arbiter.{Arbiter}
 use Rattle.arbiter.specs.declared.Chosen.{Chosen}
 use Rattle.arbiter.specs.declared.Chosen.the-variants.{Queue, Nobody}
-use Rattle.controller.specs.declared.Controller.{Controller}
+use Rattle.controller.specs.Controller.{Controller}
 use Rattle.controller.specs.State.{sqAt}
 use Rattle.controller.specs.Rings.{outside}
 use Rattle.controller.specs.Answers.{refused, numberOf, Outcome, refusing}

@@ -23,7 +23,7 @@ use Rattle.controller.specs.declared.Ring.{Ring}
 use Rattle.controller.specs.declared.SubmissionQueue.{SubmissionQueue}
 use Rattle.controller.specs.declared.CompletionQueue.{CompletionQueue}
 use Rattle.controller.specs.declared.Command.{Command}
-use Rattle.controller.specs.declared.Controller.{Controller}
+use Rattle.controller.specs.Controller.{Controller}
 use Rattle.controller.specs.State.{noSq, noCq, noCommand, sqAt, cqAt, commandAt, outstanding, withSq, withCq, withHead, withTail}
 use Rattle.controller.specs.State.{sqWithRing, withCommands, freshController}
 use Rattle.controller.specs.Valid.{RingOk, CommandOk, Valid}

@@ -10,7 +10,7 @@ use Rattle.le.proofs.Parts.{part-in, part-out}
 use Rattle.entry.specs.Completion.{completionBytes}
 use Rattle.entry.specs.declared.completion.Completion.{Completion}
 use Rattle.entry.proofs.Completions.{completion-length}
-use Rattle.controller.specs.declared.Controller.{Controller}
+use Rattle.controller.specs.Controller.{Controller}
 use Rattle.controller.specs.State.{cqAt, commandAt, outstanding}
 use Rattle.controller.specs.Rings.{outside}
 use Rattle.controller.specs.Finishing.{cqOf, tailOf, postedMemory}

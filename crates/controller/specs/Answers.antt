@@ -2,7 +2,7 @@
 use Prim.Native.Nat.{ℕ}
 use mathlib.Core.List.{List, [], _∷_}
 use Rattle.le.specs.Memory.{Memory}
-use Rattle.controller.specs.declared.Controller.{Controller}
+use Rattle.controller.specs.Controller.{Controller}
 
 -- "It answers the SQ id, how many commands, the first tag, the second tag (0 if one is taken), the first slot and the verdict."
 pub record StartAnswer : Type 0 where

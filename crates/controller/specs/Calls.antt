@@ -4,16 +4,13 @@ use mathlib.Core.Bool.{Bool}
 use lib.Dec.{eqb}
 use Rattle.rules.specs.Rules.{pick}
 use Rattle.le.specs.Memory.{Memory}
-use Rattle.controller.specs.declared.Controller.{Controller}
-use Rattle.controller.specs.declared.Changed.{Changed}
-use Rattle.controller.specs.declared.Start.{Start}
+use Rattle.controller.specs.Controller.{Controller}
 use Rattle.controller.specs.declared.Started.{Started}
 use Rattle.controller.specs.declared.Started.the-variants as S
-use Rattle.controller.specs.declared.Finish.{Finish}
 use Rattle.controller.specs.declared.Finished.{Finished}
 use Rattle.controller.specs.declared.Finished.the-variants as F
 use Rattle.controller.specs.State.{freshController}
-use Rattle.controller.specs.Answers.{Answer, refused, done, started, finished, Outcome, outcome}
+use Rattle.controller.specs.Answers.{Answer, refused, done, started, finished, Outcome}
 use Rattle.controller.specs.Create as create
 use Rattle.controller.specs.Doorbell as doorbell
 use Rattle.controller.specs.Starting as starting
@@ -36,9 +33,9 @@ resultOf (headWrite id value) = 0
 resultOf start = 0
 resultOf (finish tag status result) = result
 
--- the answers of the code in document 01's numbers and values, with the memory that is left
-abbrev pub ofChanged : Memory → Changed → Outcome
-ofChanged m r = outcome (pick (eqb (r .refusal) 0) done (refused (r .refusal))) (r .controller) m
+-- The answers of the code in document 01's numbers and values. A creation or a doorbell write answers its refusal number, 0 for done.
+abbrev pub ofNumber : ℕ → Answer
+ofNumber n = pick (eqb n 0) done (refused n)
 
 abbrev pub ofStarted : Started → Answer
 ofStarted (S.One sq tag slot verdict) =
@@ -47,15 +44,9 @@ ofStarted (S.Pair sq first second slot verdict) =
     started (record { sq = sq; count = 2; first = first; second = second; slot = slot; verdict = verdict })
 ofStarted (S.Refused n) = refused n
 
-abbrev pub ofStart : Memory → Start → Outcome
-ofStart m r = outcome (ofStarted (r .answer)) (r .controller) m
-
 abbrev pub ofFinished : Finished → Answer
 ofFinished (F.Slot slot) = finished (record { slot = slot })
 ofFinished (F.Refused n) = refused n
-
-abbrev pub ofFinish : Memory → Finish → Outcome
-ofFinish m r = outcome (ofFinished (r .answer)) (r .controller) m
 
 -- a call on a controller, given a memory
 abbrev pub perform : Controller → Memory → Call → Outcome

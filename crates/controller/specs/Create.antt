@@ -10,7 +10,7 @@ use Rattle.ring.specs.Slots.{wrongSize}
 use Rattle.controller.specs.declared.Ring.{Ring}
 use Rattle.controller.specs.declared.SubmissionQueue.{SubmissionQueue}
 use Rattle.controller.specs.declared.CompletionQueue.{CompletionQueue}
-use Rattle.controller.specs.declared.Controller.{Controller}
+use Rattle.controller.specs.Controller.{Controller}
 use Rattle.controller.specs.State.{sqAt, cqAt, withSq, withCq}
 use Rattle.controller.specs.Rings.{shares}
 use Rattle.controller.specs.Answers.{Outcome, outcome, done, refusing}

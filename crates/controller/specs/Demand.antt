@@ -8,7 +8,7 @@ use Rattle.rules.specs.Rules.{pick}
 use Rattle.le.specs.Memory.{Memory, part, Bytes}
 use Rattle.entry.specs.declared.completion.Completion.{Completion}
 use Rattle.ring.specs.Reader.{tagIn, found}
-use Rattle.controller.specs.declared.Controller.{Controller}
+use Rattle.controller.specs.Controller.{Controller}
 use Rattle.controller.specs.State.{cqAt, freshController}
 use Rattle.controller.specs.Answers.{Answer, unlessRefused}
 use Rattle.controller.specs.Calls.{Call, createCq, createSq, tailWrite, headWrite, start, finish, resultOf}

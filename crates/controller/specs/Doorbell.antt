@@ -9,7 +9,7 @@ use Rattle.ring.specs.Doorbell as ring
 use Rattle.controller.specs.declared.Ring.{Ring}
 use Rattle.controller.specs.declared.SubmissionQueue.{SubmissionQueue}
 use Rattle.controller.specs.declared.CompletionQueue.{CompletionQueue}
-use Rattle.controller.specs.declared.Controller.{Controller}
+use Rattle.controller.specs.Controller.{Controller}
 use Rattle.controller.specs.State.{sqAt, cqAt, withSq, withCq, withHead, withTail, sqWithRing, cqWithRing}
 use Rattle.controller.specs.Answers.{Outcome, outcome, refused, done, refusing}
 

@@ -13,7 +13,7 @@ use Rattle.ring.specs.Slots.{next, distance, turned}
 use Rattle.controller.specs.declared.Ring.{Ring}
 use Rattle.controller.specs.declared.CompletionQueue.{CompletionQueue}
 use Rattle.controller.specs.declared.Command.{Command}
-use Rattle.controller.specs.declared.Controller.{Controller}
+use Rattle.controller.specs.Controller.{Controller}
 use Rattle.controller.specs.State.{noCommand, sqAt, cqAt, commandAt, outstanding, withTail, withCq, withCommands}
 use Rattle.controller.specs.Status.{failedFused}
 use Rattle.controller.specs.Rings.{outside}

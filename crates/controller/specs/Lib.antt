@@ -1,3 +1,4 @@
+pub mod Controller
 pub mod State
 pub mod Status
 pub mod Answers

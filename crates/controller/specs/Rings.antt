@@ -8,7 +8,7 @@ use Rattle.bits.specs.Bits.{someBelow}
 use Rattle.controller.specs.declared.Ring.{Ring}
 use Rattle.controller.specs.declared.SubmissionQueue.{SubmissionQueue}
 use Rattle.controller.specs.declared.CompletionQueue.{CompletionQueue}
-use Rattle.controller.specs.declared.Controller.{Controller}
+use Rattle.controller.specs.Controller.{Controller}
 use Rattle.controller.specs.State.{noSq, noCq}
 
 -- a test of a ring, which is given the bytes of its entries too

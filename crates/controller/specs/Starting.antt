@@ -23,7 +23,7 @@ use Rattle.arbiter.specs.declared.Chosen.the-variants as C
 use Rattle.controller.specs.declared.Ring.{Ring}
 use Rattle.controller.specs.declared.SubmissionQueue.{SubmissionQueue}
 use Rattle.controller.specs.declared.Command.{Command}
-use Rattle.controller.specs.declared.Controller.{Controller}
+use Rattle.controller.specs.Controller.{Controller}
 use Rattle.controller.specs.State.{sqAt, sqWithRing, withHead, withSq, withCommands}
 use Rattle.controller.specs.Rings.{outside}
 use Rattle.controller.specs.Answers.{Outcome, outcome, started, refusing}

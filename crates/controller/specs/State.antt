@@ -4,7 +4,7 @@ use mathlib.Core.Bool.{Bool, false, not, _&&_}
 use mathlib.Core.List.{List, [], _∷_}
 use lib.Dec.{ltb, eqb}
 use lib.ListN.{getD, set, replicate}
-use Rattle.rules.specs.Rules.{firstMatch, settle}
+use Rattle.rules.specs.Rules.{Table, firstMatch, settle}
 use Rattle.bits.specs.Tags.{isFree}
 use Rattle.arbiter.specs.Arbiter.{fresh}
 use Rattle.arbiter.specs.declared.Arbiter.{Arbiter}
@@ -12,8 +12,7 @@ use Rattle.controller.specs.declared.Ring.{Ring}
 use Rattle.controller.specs.declared.SubmissionQueue.{SubmissionQueue}
 use Rattle.controller.specs.declared.CompletionQueue.{CompletionQueue}
 use Rattle.controller.specs.declared.Command.{Command}
-use Rattle.controller.specs.declared.Controller.{Controller}
-use Rattle.controller.specs.declared.Changed.{Changed}
+use Rattle.controller.specs.Controller.{Controller}
 
 abbrev pub noRing : Ring
 noRing = record { exists = false; base = 0; size = 0; head = 0; tail = 0 }
@@ -77,12 +76,14 @@ freshController weighted word =
       arbiter = fresh weighted word;
     }
 
-abbrev pub changed : Controller → ℕ → Changed
-changed c n = record { refusal = n; controller = c }
+-- "mechanism other than 0 or 1" (23)
+abbrev pub newRules : ℕ → Table
+newRules mechanism = (ltb 1 mechanism, 23) ∷ []
 
--- "mechanism other than 0 or 1" (23); "A controller refused with 23 is one of mechanism 0, word 0, no queues."
-unfoldable pub created : ℕ → ℕ → Changed
-created mechanism word =
-    settle (firstMatch ((ltb 1 mechanism, 23) ∷ []))
-    (changed (freshController false 0))
-    (changed (freshController (eqb mechanism 1) word) 0)
+unfoldable pub newRefusal : ℕ → ℕ
+newRefusal mechanism = firstMatch (newRules mechanism)
+
+-- "A controller refused with 23 is one of mechanism 0, word 0, no queues."
+unfoldable pub newController : ℕ → ℕ → Controller
+newController mechanism word =
+    settle (newRefusal mechanism) (λ n. freshController false 0) (freshController (eqb mechanism 1) word)

@@ -1,7 +1,7 @@
 -- Calls one after another, as one list of steps. Whatever is said of a list of calls is a fold over it.
 use mathlib.Core.List.{List, [], _∷_, map, foldl}
 use Rattle.le.specs.Memory.{Memory}
-use Rattle.controller.specs.declared.Controller.{Controller}
+use Rattle.controller.specs.Controller.{Controller}
 use Rattle.controller.specs.Answers.{Answer, Outcome}
 use Rattle.controller.specs.Calls.{Call, perform}
 

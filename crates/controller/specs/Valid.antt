@@ -5,7 +5,7 @@ use mathlib.Core.Path.{_≡_}
 use lib.ListN.{length}
 use Rattle.controller.specs.declared.Ring.{Ring}
 use Rattle.controller.specs.declared.Command.{Command}
-use Rattle.controller.specs.declared.Controller.{Controller}
+use Rattle.controller.specs.Controller.{Controller}
 use Rattle.controller.specs.State.{sqAt, cqAt, commandAt, outstanding}
 
 -- 2 to 1,024 entries, a head and a tail below that, and a base that is a multiple of 4,096

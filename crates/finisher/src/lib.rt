@@ -2,25 +2,34 @@
 ghost use mathlib.Core.Path.{_≡_};
 ghost use Prim.Native.Nat.{_+_, _*_, _≤_, _<_};
 ghost use lib.ListN.{length};
+ghost use Rattle.rules.specs.Rules.{firstMatch};
+ghost use Rattle.bits.specs.Tags.{givenBack};
 ghost use Rattle.le.specs.Memory.{put};
 ghost use Rattle.entry.specs.Completion.{completion, completionBytes};
-ghost use Rattle.rules.specs.Rules.{firstMatch};
-ghost use Rattle.controller.specs.Calls.{Reachable, perform, ofFinish, finish as finishCall};
-ghost use Rattle.controller.specs.Finishing.{full, callRules, postingRules, statusOf, released, posted};
+ghost use Rattle.controller.specs.Answers.{outcome};
+ghost use Rattle.controller.specs.Calls.{perform, ofFinished, finish as finishCall};
+ghost use Rattle.controller.specs.Finishing.{full, callRules, postingRules, statusOf, released, unlinked, posted};
+ghost use Rattle.controller.specs.State.{cqAt, withCq, withCommands};
 ghost use Rattle.controller.specs.Valid.{RingOk};
-ghost use Rattle.finisher.specs.Halves.{halfAt};
+ghost use Rattle.store.specs.Held.{held, Sound, Holds, Reached};
 use controller::Command;
 use controller::CompletionQueue;
-use controller::Controller;
-use controller::Finish;
 use controller::Finished;
 use controller::Ring;
-use controller::SubmissionQueue;
-use queues::rings::cqs_outside;
-use queues::rings::sqs_outside;
+use queues::rings::rings_outside;
 use ring::slots::distance_in;
 use ring::slots::next_slot;
 use ring::slots::next_tag;
+use store::Controller;
+use store::WORDS;
+use store::command_at;
+use store::cq_at;
+use store::free_of;
+use store::is_outstanding;
+use store::put_command;
+use store::put_cq_tail;
+use store::put_free;
+use store::sq_at;
 
 // Whether the ring has no free slot.
 fn is_full(r: Ring) -> bool
@@ -30,24 +39,14 @@ fn is_full(r: Ring) -> bool
     distance_in(r.size as u64, r.head as u64, r.tail as u64) == r.size as u64 - 1
 }
 
-// Why a controller with these parts refuses a finish in `n` bytes of memory, whatever its command is: 0, or the refusal number.
-fn call_refusal(
-    sqs: [SubmissionQueue; 16],
-    cqs: [CompletionQueue; 16],
-    free: u64,
-    n: u64,
-    tag: u64,
-    status: u64,
-) -> u64
-    ensures { λ r. ⌜ ((c : Controller) → c .sqs ≡ sqs → c .cqs ≡ cqs → c .free ≡ free → r ≡ firstMatch (callRules c n tag status)) ⌝ }
+// Why a finish is refused in `n` bytes of memory, whatever its command is: 0, or the refusal number.
+fn call_refusal(state: &[u64; WORDS], n: u64, tag: u64, status: u64) -> u64
+    ensures { λ r. ⌜ r ≡ firstMatch (callRules (held (now (state .entry))) n tag status) ⌝ }
 {
-    if sqs_outside(sqs, n) {
+    if rings_outside(state, n) {
         return 5;
     }
-    if cqs_outside(cqs, n) {
-        return 5;
-    }
-    if !controller::is_outstanding(free, tag) {
+    if !is_outstanding(free_of(state), tag) {
         return 14;
     }
     if Controller::LAST_STATUS < status {
@@ -123,63 +122,66 @@ fn release(k: Command, status: u64) -> Command
     half
 }
 
-// The tag of a first half's second half, or where there is none the tag given, whose command then stays as it is. `second` is the
-// second half's tag plus 1, or 0.
-fn half_at(tag: u64, second: u8) -> usize
-    requires { ⌜ (tag < 64) × (second ≤ 64) ⌝ }
-    ensures { λ r. ⌜ (r ≡ halfAt tag second) × (r < 64) ⌝ }
+// Completion queue i, which is y, has one entry more.
+fn move_on(state: &mut [u64; WORDS], i: usize, y: CompletionQueue)
+    requires { ⌜ (i < 16) × Sound (now state) × RingOk (y .ring) × (y .phase ≤ 1) × (y ≡ cqAt (held (now state)) i) ⌝ }
+    ensures { λ _. ⌜ Holds (now (state .exit)) (withCq (held (now (state .entry))) i (posted y)) ⌝ }
 {
-    if second == 0 {
-        return tag as usize;
-    }
-    (second - 1) as usize
+    let q = with_posted(y);
+    put_cq_tail(state, i, q.ring.tail, q.phase);
 }
 
-// Finishes an outstanding command: posts its completion and frees its tag. For speed the arrays are changed here alone, and the
-// answer is built in one place.
-pub fn finish(c: Controller, memory: &mut [u8], tag: u64, status: u64, result: u32) -> Finish
-    requires { ⌜ Reachable c ⌝ }
-    ensures { λ r. ⌜ ofFinish (now (memory .exit)) r ≡ perform c (now (memory .entry)) (finishCall tag status result) ⌝ }
+// The second half of a first half that has posted the status; `second` is its tag plus 1, or 0.
+fn unlink(state: &mut [u64; WORDS], second: u8, status: u64)
+    requires { ⌜ (second ≤ 64) × Sound (now state) ⌝ }
+    ensures { λ _. ⌜ (let c = held (now (state .entry)) in
+        Holds (now (state .exit)) (withCommands c (unlinked (c .commands) second status) (c .free) (c .arbiter))) ⌝ }
 {
-    let sqs = c.sqs;
-    let mut cqs = c.cqs;
-    let mut commands = c.commands;
-    let mut free = c.free;
-    let arbiter = c.arbiter;
-    let refusal = call_refusal(sqs, cqs, free, memory.len() as u64, tag, status);
-    let mut answer = Finished::Refused(refusal);
-    if refusal == 0 {
-        let t = tag as usize;
-        let k = commands[t];
-        let s = k.sq as usize;
-        let x = sqs[s];
-        let i = x.cq as usize;
-        let y = cqs[i];
-        let refusal = posting_refusal(k, y.ring);
-        answer = Finished::Refused(refusal);
-        if refusal == 0 {
-            let given = status_of(k.verdict, status);
-            post(memory, y, k, x.ring.head, given, result);
-            cqs[i] = with_posted(y);
-            let j = half_at(tag, k.second);
-            let half = commands[j];
-            commands[j] = if k.second == 0 {
-                half
-            } else {
-                release(half, given)
-            };
-            free = bits::give_back(free, tag);
-            answer = Finished::Slot { slot: y.ring.tail };
-        }
+    if second == 0 {
+        return;
     }
-    Finish {
-        answer: answer,
-        controller: Controller {
-            sqs: sqs,
-            free: free,
-            cqs: cqs,
-            arbiter: arbiter,
-            commands: commands,
-        },
+    let t = (second - 1) as usize;
+    let half = command_at(state, t);
+    put_command(state, t, release(half, status));
+}
+
+fn give_back(state: &mut [u64; WORDS], tag: u64)
+    requires { ⌜ Sound (now state) ⌝ }
+    ensures { λ _. ⌜ (let c = held (now (state .entry)) in
+        Holds (now (state .exit)) (withCommands c (c .commands) (givenBack (c .free) tag) (c .arbiter))) ⌝ }
+{
+    let free = free_of(state);
+    put_free(state, bits::give_back(free, tag));
+}
+
+// Finishes an outstanding command: posts its completion and frees its tag.
+pub fn finish(
+    state: &mut [u64; WORDS],
+    memory: &mut [u8],
+    tag: u64,
+    status: u64,
+    result: u32,
+) -> Finished
+    requires { ⌜ Reached (now state) ⌝ }
+    ensures { λ r. ⌜ Sound (now (state .exit)) × (outcome (ofFinished r) (held (now (state .exit))) (now (memory .exit))
+        ≡ perform (held (now (state .entry))) (now (memory .entry)) (finishCall tag status result)) ⌝ }
+{
+    let refusal = call_refusal(state, memory.len() as u64, tag, status);
+    if refusal != 0 {
+        return Finished::Refused(refusal);
     }
+    let k = command_at(state, tag as usize);
+    let x = sq_at(state, k.sq as usize);
+    let i = x.cq as usize;
+    let y = cq_at(state, i);
+    let refusal = posting_refusal(k, y.ring);
+    if refusal != 0 {
+        return Finished::Refused(refusal);
+    }
+    let given = status_of(k.verdict, status);
+    post(memory, y, k, x.ring.head, given, result);
+    move_on(state, i, y);
+    unlink(state, k.second, given);
+    give_back(state, tag);
+    Finished::Slot { slot: y.ring.tail }
 }

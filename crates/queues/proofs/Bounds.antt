@@ -8,7 +8,7 @@ use mir.Syntax.{w64}
 use mir.Val.{Fits}
 use lib.Dec.{ltb}
 use borrow.Author.Tests.{lt-ltb, le-ltb, ltb-true, ltb-false}
-use Rattle.controller.specs.declared.Controller.{Controller}
+use Rattle.controller.specs.Controller.{Controller}
 use Rattle.controller.specs.Rings.{someSq, someCq, someRing, sharing, shares, endsPast, outside}
 
 -- two comparisons that say the same have the same value

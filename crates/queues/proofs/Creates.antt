@@ -1,22 +1,22 @@
 -- Laws of the creation of queues. Assumes nothing.
 use Prim.Native.Nat.{ℕ, _+_, _*_, _-_, _%_, _≤_, _<_, min, max}
-use mathlib.Core.Bool.{Bool, true, false, _||_}
-use mathlib.Core.List.{List, [], _∷_, map}
-use mathlib.Core.Path.{_≡_, refl, sym, _∙_}
+use mathlib.Core.Bool.{Bool, true, false}
+use mathlib.Core.Path.{_≡_, sym, ap}
 use native.Mathlib.Omega.{arith}
 use lib.Dec.{ltb}
-use lib.ListN.{length, length-map}
+use lib.ListN.{length}
 use borrow.Author.Tests.{le-ltb, eq-eqb}
 use Rattle.rules.specs.Rules.{firstMatch}
 use Rattle.le.specs.Memory.{Memory}
 use Rattle.ring.specs.Slots.{wrongSize}
-use Rattle.controller.specs.declared.Controller.{Controller}
+use Rattle.controller.specs.Controller.{Controller}
 use Rattle.controller.specs.Create.{ringRules, createCqRefusal, createSqRefusal, newCq, newSq, createCq, createSq}
-use Rattle.controller.specs.Rings.{someSq, someCq, shareByte, sharing}
-use Rattle.controller.specs.State.{withSq, withCq, changed}
-use Rattle.controller.specs.Calls.{ofChanged}
-use Rattle.queues.proofs.Bounds.{same-test, shares-halves}
-use Rattle.controller.proofs.Settled.{changed-refused, accepted}
+use Rattle.controller.specs.Rings.{shareByte, shares}
+use Rattle.controller.specs.State.{withSq, withCq}
+use Rattle.controller.specs.Answers.{outcome, done}
+use Rattle.controller.specs.Calls.{ofNumber}
+use Rattle.controller.proofs.Settled.{number-refused, accepted}
+use Rattle.queues.proofs.Bounds.{same-test}
 
 -- the four cases in which the code tests whether two ranges have a byte in common
 module _ (a k b l : ℕ) where
@@ -42,40 +42,30 @@ module _ (c : Controller) (n entry size base : ℕ) {wrong : Bool} (w : wrong �
   pub ring-5 : out ≡ true → 5 ≡ firstMatch (ringRules c n entry size base)
   ring-5 f = rw (← w, x, eq-eqb (base % 4096) 0 e, ← o, f)
 
-  module _ (f : out ≡ false) {sq : Bool} (s : sq ≡ someSq (c .sqs) (sharing base (entry * size))) where
-    pub ring-6 : sq ≡ true → 6 ≡ firstMatch (ringRules c n entry size base)
-    ring-6 g = rw (← w, x, eq-eqb (base % 4096) 0 e, ← o, f, shares-halves c base (entry * size), ← s, g)
+  module _ (f : out ≡ false) {meets : Bool} (s : meets ≡ shares c base (entry * size)) where
+    pub ring-6 : meets ≡ true → 6 ≡ firstMatch (ringRules c n entry size base)
+    ring-6 g = rw (← w, x, eq-eqb (base % 4096) 0 e, ← o, f, ← s, g)
 
-    module _ (g : sq ≡ false) {cq : Bool} (t : cq ≡ someCq (c .cqs) (sharing base (entry * size))) where
-      past : firstMatch (ringRules c n entry size base) ≡ firstMatch ((cq, 6) ∷ [])
-      past = rw (← w, x, eq-eqb (base % 4096) 0 e, ← o, f, shares-halves c base (entry * size), ← s, g, ← t)
-
-      pub ring-6-cq : cq ≡ true → 6 ≡ firstMatch (ringRules c n entry size base)
-      ring-6-cq i = rw (past, i)
-
-      pub ring-0 : cq ≡ false → 0 ≡ firstMatch (ringRules c n entry size base)
-      ring-0 i = rw (past, i)
-
--- the length of an array parameter, from what is known of its elements
-pub length-of-map : {A B : Type 0} (f : A → B) (l : List A) (n : ℕ) → length (map f l) ≡ n → length l ≡ n
-length-of-map f l n e = sym (length-map l f) ∙ e
+    pub ring-0 : meets ≡ false → 0 ≡ firstMatch (ringRules c n entry size base)
+    ring-0 g = rw (← w, x, eq-eqb (base % 4096) 0 e, ← o, f, ← s, g)
 
 -- what the creations come to
 module _ (c : Controller) (m : Memory) (id size base : ℕ) {k : ℕ} (e : k ≡ createCqRefusal c (length m) id size base) where
-  pub cq-refused : (k ≡ 0 → ⊥) → ofChanged m (changed c k) ≡ createCq c m id size base
+  pub cq-refused : (k ≡ 0 → ⊥) → outcome (ofNumber k) c m ≡ createCq c m id size base
   unfolding createCq
-  cq-refused h = changed-refused c m _ e h
+  cq-refused h = number-refused c m _ e h
 
-  pub cq-created : k ≡ 0 → ofChanged m (changed (withCq c id (newCq size base)) 0) ≡ createCq c m id size base
+  pub cq-created : k ≡ 0 → {d : Controller} → d ≡ withCq c id (newCq size base) → outcome (ofNumber 0) d m ≡ createCq c m id size base
   unfolding createCq
-  cq-created z = accepted c m _ e z refl
+  cq-created z f = accepted c m _ e z (ap (λ d. outcome done d m) f)
 
 module _ (c : Controller) (m : Memory) (id size base cq class : ℕ) {k : ℕ}
     (e : k ≡ createSqRefusal c (length m) id size base cq class) where
-  pub sq-refused : (k ≡ 0 → ⊥) → ofChanged m (changed c k) ≡ createSq c m id size base cq class
+  pub sq-refused : (k ≡ 0 → ⊥) → outcome (ofNumber k) c m ≡ createSq c m id size base cq class
   unfolding createSq
-  sq-refused h = changed-refused c m _ e h
+  sq-refused h = number-refused c m _ e h
 
-  pub sq-created : k ≡ 0 → ofChanged m (changed (withSq c id (newSq size base cq class)) 0) ≡ createSq c m id size base cq class
+  pub sq-created : k ≡ 0 → {d : Controller} → d ≡ withSq c id (newSq size base cq class)
+      → outcome (ofNumber 0) d m ≡ createSq c m id size base cq class
   unfolding createSq
-  sq-created z = accepted c m _ e z refl
+  sq-created z f = accepted c m _ e z (ap (λ d. outcome done d m) f)

@@ -1,19 +1,24 @@
 // Creating queues.
 ghost use mathlib.Core.Path.{_≡_};
 ghost use Prim.Native.Nat.{_≤_};
-ghost use lib.ListN.{getD};
 ghost use Rattle.rules.specs.Rules.{firstMatch};
-ghost use Rattle.controller.specs.Calls.{perform, ofChanged, createCq, createSq};
+ghost use Rattle.controller.specs.Answers.{outcome};
+ghost use Rattle.controller.specs.Calls.{perform, ofNumber, createCq, createSq};
 ghost use Rattle.controller.specs.Create.{ringRules, wrongCq, createCqRefusal, createSqRefusal, newRing};
-ghost use Rattle.controller.specs.Rings.{existing, someSq, someCq, shareByte, sharing};
-ghost use Rattle.controller.specs.State.{noSq, noCq};
+ghost use Rattle.controller.specs.Rings.{existing, someSq, someCq, shareByte, sharing, shares};
+ghost use Rattle.controller.specs.State.{sqAt, cqAt};
+ghost use Rattle.store.specs.Held.{held, Sound, Reached};
 use crate::rings::ends_past;
-use controller::Changed;
 use controller::CompletionQueue;
-use controller::Controller;
 use controller::Ring;
 use controller::SubmissionQueue;
 use ring::slots::wrong_size;
+use store::Controller;
+use store::WORDS;
+use store::cq_at;
+use store::put_cq;
+use store::put_sq;
+use store::sq_at;
 
 // Whether the k bytes at a and the l bytes at b have a byte in common. No sum is made, so none wraps.
 fn share_byte(a: u64, k: u64, b: u64, l: u64) -> bool
@@ -37,12 +42,12 @@ fn ring_shares(r: Ring, entry: u64, a: u64, k: u64) -> bool
     share_byte(a, k, r.base, entry * (r.size as u64))
 }
 
-fn sqs_share(sqs: [SubmissionQueue; 16], a: u64, k: u64) -> bool
-    ensures { λ r. ⌜ r ≡ someSq sqs (sharing a k) ⌝ }
+fn sqs_share(state: &[u64; WORDS], a: u64, k: u64) -> bool
+    ensures { λ r. ⌜ r ≡ someSq (held (now (state .entry)) .sqs) (sharing a k) ⌝ }
 {
     let mut i: usize = 0;
     while i < 16 {
-        let q = sqs[i];
+        let q = sq_at(state, i);
         if ring_shares(q.ring, 64, a, k) {
             return true;
         }
@@ -51,12 +56,12 @@ fn sqs_share(sqs: [SubmissionQueue; 16], a: u64, k: u64) -> bool
     false
 }
 
-fn cqs_share(cqs: [CompletionQueue; 16], a: u64, k: u64) -> bool
-    ensures { λ r. ⌜ r ≡ someCq cqs (sharing a k) ⌝ }
+fn cqs_share(state: &[u64; WORDS], a: u64, k: u64) -> bool
+    ensures { λ r. ⌜ r ≡ someCq (held (now (state .entry)) .cqs) (sharing a k) ⌝ }
 {
     let mut i: usize = 0;
     while i < 16 {
-        let q = cqs[i];
+        let q = cq_at(state, i);
         if ring_shares(q.ring, 16, a, k) {
             return true;
         }
@@ -65,10 +70,20 @@ fn cqs_share(cqs: [CompletionQueue; 16], a: u64, k: u64) -> bool
     false
 }
 
+// Whether some queue's ring has a byte in common with the k bytes at a.
+fn rings_share(state: &[u64; WORDS], a: u64, k: u64) -> bool
+    ensures { λ r. ⌜ r ≡ shares (held (now (state .entry))) a k ⌝ }
+{
+    if sqs_share(state, a, k) {
+        return true;
+    }
+    cqs_share(state, a, k)
+}
+
 // Why a new ring of `size` entries at `base` is refused in `n` bytes of memory: 0, or the refusal number.
-fn ring_refusal(c: Controller, n: u64, entry: u64, size: u64, base: u64) -> u64
+fn ring_refusal(state: &[u64; WORDS], n: u64, entry: u64, size: u64, base: u64) -> u64
     requires { ⌜ entry ≤ 64 ⌝ }
-    ensures { λ r. ⌜ r ≡ firstMatch (ringRules c n entry size base) ⌝ }
+    ensures { λ r. ⌜ r ≡ firstMatch (ringRules (held (now (state .entry))) n entry size base) ⌝ }
 {
     if wrong_size(size) {
         return 3;
@@ -80,12 +95,7 @@ fn ring_refusal(c: Controller, n: u64, entry: u64, size: u64, base: u64) -> u64
     if ends_past(n, base, bytes) {
         return 5;
     }
-    let sqs = c.sqs;
-    if sqs_share(sqs, base, bytes) {
-        return 6;
-    }
-    let cqs = c.cqs;
-    if cqs_share(cqs, base, bytes) {
+    if rings_share(state, base, bytes) {
         return 6;
     }
     0
@@ -104,70 +114,66 @@ fn new_ring(size: u64, base: u64) -> Ring
     }
 }
 
-fn sq_exists(sqs: [SubmissionQueue; 16], id: u64) -> bool
-    ensures { λ r. ⌜ r ≡ getD sqs id noSq .ring .exists ⌝ }
+// Whether there is a submission queue of the id, which may be any number.
+fn sq_exists(state: &[u64; WORDS], id: u64) -> bool
+    ensures { λ r. ⌜ r ≡ sqAt (held (now (state .entry))) id .ring .exists ⌝ }
 {
     if Controller::LAST_QUEUE < id {
         return false;
     }
-    let i = id as usize;
-    let q = sqs[i];
+    let q = sq_at(state, id as usize);
     q.ring.exists
 }
 
-fn cq_exists(cqs: [CompletionQueue; 16], id: u64) -> bool
-    ensures { λ r. ⌜ r ≡ getD cqs id noCq .ring .exists ⌝ }
+fn cq_exists(state: &[u64; WORDS], id: u64) -> bool
+    ensures { λ r. ⌜ r ≡ cqAt (held (now (state .entry))) id .ring .exists ⌝ }
 {
     if Controller::LAST_QUEUE < id {
         return false;
     }
-    let i = id as usize;
-    let q = cqs[i];
+    let q = cq_at(state, id as usize);
     q.ring.exists
 }
 
-fn create_cq_refusal(c: Controller, n: u64, id: u64, size: u64, base: u64) -> u64
-    ensures { λ r. ⌜ r ≡ createCqRefusal c n id size base ⌝ }
+fn create_cq_refusal(state: &[u64; WORDS], n: u64, id: u64, size: u64, base: u64) -> u64
+    ensures { λ r. ⌜ r ≡ createCqRefusal (held (now (state .entry))) n id size base ⌝ }
 {
     if Controller::LAST_QUEUE < id {
         return 1;
     }
-    let cqs = c.cqs;
-    if cq_exists(cqs, id) {
+    if cq_exists(state, id) {
         return 2;
     }
-    ring_refusal(c, n, Controller::COMPLETION_BYTES, size, base)
+    ring_refusal(state, n, Controller::COMPLETION_BYTES, size, base)
 }
 
-// Creates a completion queue.
-pub fn create_cq(c: Controller, memory: &[u8], id: u64, size: u64, base: u64) -> Changed
-    ensures { λ r. ⌜ ofChanged (now (memory .entry)) r ≡ perform c (now (memory .entry)) (createCq id size base) ⌝ }
+// Creates a completion queue: 0, or the refusal number.
+pub fn create_cq(state: &mut [u64; WORDS], memory: &[u8], id: u64, size: u64, base: u64) -> u64
+    requires { ⌜ Reached (now state) ⌝ }
+    ensures { λ r. ⌜ Sound (now (state .exit)) × (outcome (ofNumber r) (held (now (state .exit))) (now (memory .entry))
+        ≡ perform (held (now (state .entry))) (now (memory .entry)) (createCq id size base)) ⌝ }
 {
-    let refusal = create_cq_refusal(c, memory.len() as u64, id, size, base);
+    let refusal = create_cq_refusal(state, memory.len() as u64, id, size, base);
     if refusal != 0 {
-        return Changed {
-            refusal: refusal,
-            controller: c,
-        };
+        return refusal;
     }
-    let i = id as usize;
     let ring = new_ring(size, base);
-    let mut next = c;
-    next.cqs[i] = CompletionQueue {
-        ring: ring,
-        phase: 1,
-    };
-    Changed {
-        refusal: 0,
-        controller: next,
-    }
+    put_cq(
+        state,
+        id as usize,
+        CompletionQueue {
+            ring: ring,
+            phase: 1,
+        },
+    );
+    0
 }
 
-// Whether submission queue `id` of a controller with these queues may not name completion queue `cq`.
-fn wrong_cq(cqs: [CompletionQueue; 16], id: u64, cq: u64) -> bool
-    ensures { λ r. ⌜ ((c : Controller) → c .cqs ≡ cqs → r ≡ wrongCq c id cq) ⌝ }
+// Whether submission queue `id` may not name completion queue `cq`.
+fn wrong_cq(state: &[u64; WORDS], id: u64, cq: u64) -> bool
+    ensures { λ r. ⌜ r ≡ wrongCq (held (now (state .entry))) id cq ⌝ }
 {
-    if !cq_exists(cqs, cq) {
+    if !cq_exists(state, cq) {
         return true;
     }
     if id == 0 {
@@ -177,7 +183,7 @@ fn wrong_cq(cqs: [CompletionQueue; 16], id: u64, cq: u64) -> bool
 }
 
 fn create_sq_refusal(
-    c: Controller,
+    state: &[u64; WORDS],
     n: u64,
     id: u64,
     size: u64,
@@ -185,55 +191,51 @@ fn create_sq_refusal(
     cq: u64,
     class: u64,
 ) -> u64
-    ensures { λ r. ⌜ r ≡ createSqRefusal c n id size base cq class ⌝ }
+    ensures { λ r. ⌜ r ≡ createSqRefusal (held (now (state .entry))) n id size base cq class ⌝ }
 {
     if Controller::LAST_QUEUE < id {
         return 1;
     }
-    let sqs = c.sqs;
-    if sq_exists(sqs, id) {
+    if sq_exists(state, id) {
         return 2;
     }
     if Controller::LAST_CLASS < class {
         return 8;
     }
-    let cqs = c.cqs;
-    if wrong_cq(cqs, id, cq) {
+    if wrong_cq(state, id, cq) {
         return 7;
     }
-    ring_refusal(c, n, Controller::SUBMISSION_BYTES, size, base)
+    ring_refusal(state, n, Controller::SUBMISSION_BYTES, size, base)
 }
 
-// Creates a submission queue that posts to completion queue `cq`.
+// Creates a submission queue that posts to completion queue `cq`: 0, or the refusal number.
 pub fn create_sq(
-    c: Controller,
+    state: &mut [u64; WORDS],
     memory: &[u8],
     id: u64,
     size: u64,
     base: u64,
     cq: u64,
     class: u64,
-) -> Changed
-    ensures { λ r. ⌜ ofChanged (now (memory .entry)) r ≡ perform c (now (memory .entry)) (createSq id size base cq class) ⌝ }
+) -> u64
+    requires { ⌜ Reached (now state) ⌝ }
+    ensures { λ r. ⌜ Sound (now (state .exit)) × (outcome (ofNumber r) (held (now (state .exit))) (now (memory .entry))
+        ≡ perform (held (now (state .entry))) (now (memory .entry)) (createSq id size base cq class)) ⌝ }
 {
-    let refusal = create_sq_refusal(c, memory.len() as u64, id, size, base, cq, class);
+    let refusal = create_sq_refusal(state, memory.len() as u64, id, size, base, cq, class);
     if refusal != 0 {
-        return Changed {
-            refusal: refusal,
-            controller: c,
-        };
+        return refusal;
     }
-    let i = id as usize;
     let ring = new_ring(size, base);
-    let mut next = c;
-    next.sqs[i] = SubmissionQueue {
-        ring: ring,
-        marked: false,
-        cq: cq as u8,
-        class: class as u8,
-    };
-    Changed {
-        refusal: 0,
-        controller: next,
-    }
+    put_sq(
+        state,
+        id as usize,
+        SubmissionQueue {
+            ring: ring,
+            marked: false,
+            cq: cq as u8,
+            class: class as u8,
+        },
+    );
+    0
 }

@@ -2,10 +2,12 @@
 ghost use mathlib.Core.Path.{_≡_};
 ghost use Prim.Native.Nat.{_+_, _≤_};
 ghost use lib.Dec.{ltb};
-ghost use Rattle.controller.specs.Rings.{existing, someSq, someCq, endsPast};
-use controller::CompletionQueue;
+ghost use Rattle.controller.specs.Rings.{existing, someSq, someCq, endsPast, outside};
+ghost use Rattle.store.specs.Held.{held};
 use controller::Ring;
-use controller::SubmissionQueue;
+use store::WORDS;
+use store::cq_at;
+use store::sq_at;
 
 // Whether `bytes` bytes at `base` end past `n` bytes. No sum is made, so none wraps.
 pub fn ends_past(n: u64, base: u64, bytes: u64) -> bool
@@ -18,7 +20,7 @@ pub fn ends_past(n: u64, base: u64, bytes: u64) -> bool
 }
 
 // Whether the ring exists and does not lie wholly in `n` bytes.
-pub fn ring_outside(r: Ring, entry: u64, n: u64) -> bool
+fn ring_outside(r: Ring, entry: u64, n: u64) -> bool
     requires { ⌜ entry ≤ 64 ⌝ }
     ensures { λ x. ⌜ x ≡ existing (endsPast n) entry r ⌝ }
 {
@@ -28,13 +30,12 @@ pub fn ring_outside(r: Ring, entry: u64, n: u64) -> bool
     ends_past(n, r.base, entry * (r.size as u64))
 }
 
-// Whether some submission queue's ring does not lie wholly in `n` bytes.
-pub fn sqs_outside(sqs: [SubmissionQueue; 16], n: u64) -> bool
-    ensures { λ r. ⌜ r ≡ someSq sqs (endsPast n) ⌝ }
+fn sqs_outside(state: &[u64; WORDS], n: u64) -> bool
+    ensures { λ r. ⌜ r ≡ someSq (held (now (state .entry)) .sqs) (endsPast n) ⌝ }
 {
     let mut i: usize = 0;
     while i < 16 {
-        let q = sqs[i];
+        let q = sq_at(state, i);
         if ring_outside(q.ring, 64, n) {
             return true;
         }
@@ -43,17 +44,26 @@ pub fn sqs_outside(sqs: [SubmissionQueue; 16], n: u64) -> bool
     false
 }
 
-// Whether some completion queue's ring does not lie wholly in `n` bytes.
-pub fn cqs_outside(cqs: [CompletionQueue; 16], n: u64) -> bool
-    ensures { λ r. ⌜ r ≡ someCq cqs (endsPast n) ⌝ }
+fn cqs_outside(state: &[u64; WORDS], n: u64) -> bool
+    ensures { λ r. ⌜ r ≡ someCq (held (now (state .entry)) .cqs) (endsPast n) ⌝ }
 {
     let mut i: usize = 0;
     while i < 16 {
-        let q = cqs[i];
+        let q = cq_at(state, i);
         if ring_outside(q.ring, 16, n) {
             return true;
         }
         i += 1;
     }
     false
+}
+
+// Whether some queue's ring does not lie wholly in `n` bytes.
+pub fn rings_outside(state: &[u64; WORDS], n: u64) -> bool
+    ensures { λ r. ⌜ r ≡ outside (held (now (state .entry))) n ⌝ }
+{
+    if sqs_outside(state, n) {
+        return true;
+    }
+    cqs_outside(state, n)
 }

@@ -5,7 +5,8 @@ ghost use Rattle.ring.specs.Doorbell.{validTail, validHead, placeRefusal
 use crate::slots::distance_in;
 use crate::slots::wrong_size;
 
-fn valid_tail(size: u64, head: u64, tail: u64, value: u64) -> bool
+// Whether a tail value is valid on a ring in order.
+pub fn valid_tail(size: u64, head: u64, tail: u64, value: u64) -> bool
     requires { ⌜ (head < size) × (tail < size) × (size ≤ 1024) ⌝ }
     ensures { λ r. ⌜ r ≡ validTail size head tail value ⌝ }
 {
@@ -15,7 +16,8 @@ fn valid_tail(size: u64, head: u64, tail: u64, value: u64) -> bool
     distance_in(size, head, tail) <= distance_in(size, head, value)
 }
 
-fn valid_head(size: u64, head: u64, tail: u64, value: u64) -> bool
+// Whether a head value is valid on a ring in order.
+pub fn valid_head(size: u64, head: u64, tail: u64, value: u64) -> bool
     requires { ⌜ (head < size) × (tail < size) × (size ≤ 1024) ⌝ }
     ensures { λ r. ⌜ r ≡ validHead size head tail value ⌝ }
 {

@@ -2,8 +2,7 @@
 // stands on one line of standard input, and a digest of all answers goes to standard output.
 ghost use Prim.Native.Nat.{_<_, _≤_};
 ghost use lib.ListN.{length};
-ghost use Rattle.controller.specs.Calls.{Reachable};
-use controller::Controller;
+ghost use Rattle.store.specs.Held.{Reached};
 use controller::Finished;
 use controller::Started;
 use doorbells::head_write;
@@ -15,6 +14,8 @@ use libc::STDOUT_FILENO;
 use queues::create::create_cq;
 use queues::create::create_sq;
 use starter::start;
+use store::Controller;
+use store::WORDS;
 use words::line::Word;
 use words::line::next_word;
 use words::number::Number;
@@ -48,10 +49,8 @@ struct Plan {
     batches: u64,
 }
 
-// The controller, the digest of its answers, the tail of each busy queue, the tail of its completion queue, and the tag that is
-// finished next.
+// The digest of the answers, the tail of each busy queue, the tail of its completion queue, and the tag that is finished next.
 struct Run {
-    controller: Controller,
     digest: u64,
     tail: u64,
     posted: u64,
@@ -131,22 +130,17 @@ fn fill(memory: &mut [u8], id: u64, pairs: bool)
     }
 }
 
-fn with_queues(memory: &mut [u8], mechanism: u64, pairs: bool) -> Controller
-    requires { ⌜ 131072 ≤ length (now memory) ⌝ }
-    ensures { λ r. ⌜ Reachable r ⌝ }
+fn create_queues(state: &mut [u64; WORDS], memory: &mut [u8], pairs: bool)
+    requires { ⌜ Reached (now state) × (131072 ≤ length (now memory)) ⌝ }
+    ensures { λ _. ⌜ Reached (now (state .exit)) ⌝ }
 {
-    let fresh = Controller::new(mechanism, WORD);
-    let mut c = fresh.controller;
     let mut id: u64 = 0;
     while id < QUEUES {
         fill(memory, id, pairs);
-        let cq = create_cq(c, memory, id, SIZE, 4096 * (QUEUES + id));
-        c = cq.controller;
-        let sq = create_sq(c, memory, id, SIZE, 4096 * id, id, id % 4);
-        c = sq.controller;
+        create_cq(state, memory, id, SIZE, 4096 * (QUEUES + id));
+        create_sq(state, memory, id, SIZE, 4096 * id, id, id % 4);
         id += 1;
     }
-    c
 }
 
 // The first of the busy queues: queue 0 only where more than one is busy.
@@ -157,21 +151,17 @@ fn first_of(busy: u64) -> u64
 }
 
 // `n` tail writes of the value that each queue holds.
-fn writes(run: Run, n: u64) -> Run
-    requires { ⌜ Reachable (run .controller) ⌝ }
-    ensures { λ r. ⌜ Reachable (r .controller) ⌝ }
+fn writes(state: &mut [u64; WORDS], run: Run, n: u64) -> Run
+    requires { ⌜ Reached (now state) ⌝ }
+    ensures { λ _. ⌜ Reached (now (state .exit)) ⌝ }
 {
-    let mut c = run.controller;
     let mut digest = run.digest;
     let mut i: u64 = 0;
     while i < n {
-        let r = tail_write(c, i % QUEUES, 0);
-        c = r.controller;
-        digest = mixed(digest, r.refusal);
+        digest = mixed(digest, tail_write(state, i % QUEUES, 0));
         i += 1;
     }
     Run {
-        controller: c,
         digest: digest,
         tail: run.tail,
         posted: run.posted,
@@ -180,23 +170,19 @@ fn writes(run: Run, n: u64) -> Run
 }
 
 // `n` commands more are submitted to each busy queue.
-fn submit(run: Run, busy: u64, n: u64) -> Run
-    requires { ⌜ Reachable (run .controller) × (busy ≤ 16) ⌝ }
-    ensures { λ r. ⌜ Reachable (r .controller) ⌝ }
+fn submit(state: &mut [u64; WORDS], run: Run, busy: u64, n: u64) -> Run
+    requires { ⌜ Reached (now state) × (busy ≤ 16) ⌝ }
+    ensures { λ _. ⌜ Reached (now (state .exit)) ⌝ }
 {
     let tail = (run.tail % SIZE + n % SIZE) % SIZE;
     let first = first_of(busy);
-    let mut c = run.controller;
     let mut digest = run.digest;
     let mut i: u64 = 0;
     while i < busy {
-        let r = tail_write(c, first + i, tail);
-        c = r.controller;
-        digest = mixed(digest, r.refusal);
+        digest = mixed(digest, tail_write(state, first + i, tail));
         i += 1;
     }
     Run {
-        controller: c,
         digest: digest,
         tail: tail,
         posted: run.posted,
@@ -205,23 +191,19 @@ fn submit(run: Run, busy: u64, n: u64) -> Run
 }
 
 // `n` completions are released from the completion queue of each busy queue.
-fn release(run: Run, busy: u64, n: u64) -> Run
-    requires { ⌜ Reachable (run .controller) × (busy ≤ 16) ⌝ }
-    ensures { λ r. ⌜ Reachable (r .controller) ⌝ }
+fn release(state: &mut [u64; WORDS], run: Run, busy: u64, n: u64) -> Run
+    requires { ⌜ Reached (now state) × (busy ≤ 16) ⌝ }
+    ensures { λ _. ⌜ Reached (now (state .exit)) ⌝ }
 {
     let posted = (run.posted % SIZE + n % SIZE) % SIZE;
     let first = first_of(busy);
-    let mut c = run.controller;
     let mut digest = run.digest;
     let mut i: u64 = 0;
     while i < busy {
-        let r = head_write(c, first + i, posted);
-        c = r.controller;
-        digest = mixed(digest, r.refusal);
+        digest = mixed(digest, head_write(state, first + i, posted));
         i += 1;
     }
     Run {
-        controller: c,
         digest: digest,
         tail: run.tail,
         posted: posted,
@@ -234,24 +216,25 @@ fn next_tag(tag: u64, last: u64) -> u64 {
 }
 
 // `n` starts, each with so many finishes of the tags that have been outstanding longest.
-fn trips(run: Run, memory: &mut [u8], n: u64, finishes: u64, last_tag: u64) -> Run
-    requires { ⌜ Reachable (run .controller) × (finishes ≤ 2) ⌝ }
-    ensures { λ r. ⌜ Reachable (r .controller) ⌝ }
+fn trips(
+    state: &mut [u64; WORDS],
+    run: Run,
+    memory: &mut [u8],
+    n: u64,
+    finishes: u64,
+    last_tag: u64,
+) -> Run
+    requires { ⌜ Reached (now state) × (finishes ≤ 2) ⌝ }
+    ensures { λ _. ⌜ Reached (now (state .exit)) ⌝ }
 {
-    let mut c = run.controller;
     let mut digest = run.digest;
     let mut tag = run.tag;
     let mut i: u64 = 0;
     while i < n {
-        let s = start(c, memory);
-        c = s.controller;
-        let started = s.answer;
-        digest = mixed(digest, of_started(started));
+        digest = mixed(digest, of_started(start(state, memory)));
         let mut k: u64 = 0;
         while k < finishes {
-            let f = finish(c, memory, tag, 0, (i % 4294967296) as u32);
-            c = f.controller;
-            let finished = f.answer;
+            let finished = finish(state, memory, tag, 0, (i % 4294967296) as u32);
             digest = mixed(digest, of_finished(finished));
             tag = next_tag(tag, last_tag);
             k += 1;
@@ -259,7 +242,6 @@ fn trips(run: Run, memory: &mut [u8], n: u64, finishes: u64, last_tag: u64) -> R
         i += 1;
     }
     Run {
-        controller: c,
         digest: digest,
         tail: run.tail,
         posted: run.posted,
@@ -268,10 +250,7 @@ fn trips(run: Run, memory: &mut [u8], n: u64, finishes: u64, last_tag: u64) -> R
 }
 
 // The loop without calls.
-fn idle(mut run: Run, n: u64) -> Run
-    requires { ⌜ Reachable (run .controller) ⌝ }
-    ensures { λ r. ⌜ Reachable (r .controller) ⌝ }
-{
+fn idle(mut run: Run, n: u64) -> Run {
     let mut digest = run.digest;
     let mut i: u64 = 0;
     while i < n {
@@ -283,45 +262,54 @@ fn idle(mut run: Run, n: u64) -> Run
 }
 
 // A batch of commands: submitted, started and finished, and its completions released.
-fn round(run: Run, memory: &mut [u8], busy: u64, starts: u64, finishes: u64, last_tag: u64) -> Run
-    requires { ⌜ Reachable (run .controller) × (busy ≤ 16) × (finishes ≤ 2) ⌝ }
-    ensures { λ r. ⌜ Reachable (r .controller) ⌝ }
+fn round(
+    state: &mut [u64; WORDS],
+    run: Run,
+    memory: &mut [u8],
+    busy: u64,
+    starts: u64,
+    finishes: u64,
+    last_tag: u64,
+) -> Run
+    requires { ⌜ Reached (now state) × (busy ≤ 16) × (finishes ≤ 2) ⌝ }
+    ensures { λ _. ⌜ Reached (now (state .exit)) ⌝ }
 {
-    let submitted = submit(run, busy, SUBMITTED);
-    let done = trips(submitted, memory, starts, finishes, last_tag);
-    release(done, busy, SUBMITTED)
+    let submitted = submit(state, run, busy, SUBMITTED);
+    let done = trips(state, submitted, memory, starts, finishes, last_tag);
+    release(state, done, busy, SUBMITTED)
 }
 
-fn batch(run: Run, memory: &mut [u8; MEMORY_BYTES], p: Plan) -> Run
-    requires { ⌜ Reachable (run .controller) × (p .busy ≤ 16) × (p .outstanding ≤ 63) ⌝ }
-    ensures { λ r. ⌜ Reachable (r .controller) ⌝ }
+fn batch(state: &mut [u64; WORDS], run: Run, memory: &mut [u8; MEMORY_BYTES], p: Plan) -> Run
+    requires { ⌜ Reached (now state) × (p .busy ≤ 16) × (p .outstanding ≤ 63) ⌝ }
+    ensures { λ _. ⌜ Reached (now (state .exit)) ⌝ }
 {
     let n = SUBMITTED * p.busy;
     if p.kind == 0 {
         return idle(run, n);
     }
     if p.kind == DOORBELLS {
-        return writes(run, n);
+        return writes(state, run, n);
     }
     if p.kind == PAIRS {
-        return round(run, memory, p.busy, n / 2, 2, p.outstanding + 1);
+        return round(state, run, memory, p.busy, n / 2, 2, p.outstanding + 1);
     }
-    round(run, memory, p.busy, n, 1, p.outstanding)
+    round(state, run, memory, p.busy, n, 1, p.outstanding)
 }
 
-// A controller with 16 queues of each kind, and the commands that stay outstanding.
-fn prepared(memory: &mut [u8; MEMORY_BYTES], p: Plan) -> Run
-    ensures { λ r. ⌜ Reachable (r .controller) ⌝ }
+// 16 queues of each kind, and the commands that stay outstanding.
+fn prepare(state: &mut [u64; WORDS], memory: &mut [u8; MEMORY_BYTES], p: Plan) -> Run
+    requires { ⌜ Reached (now state) ⌝ }
+    ensures { λ _. ⌜ Reached (now (state .exit)) ⌝ }
 {
-    let c = with_queues(memory, p.mechanism, p.kind == PAIRS);
+    create_queues(state, memory, p.kind == PAIRS);
     let run = Run {
-        controller: c,
         digest: 0,
         tail: 0,
         posted: 0,
         tag: 0,
     };
-    trips(submit(run, 1, p.outstanding), memory, p.outstanding, 0, 0)
+    let submitted = submit(state, run, 1, p.outstanding);
+    trips(state, submitted, memory, p.outstanding, 0, 0)
 }
 
 // The digest of all answers.
@@ -329,10 +317,12 @@ fn digest_of(p: Plan) -> u64
     requires { ⌜ (p .busy ≤ 16) × (p .outstanding ≤ 63) ⌝ }
 {
     let mut memory = [0u8; MEMORY_BYTES];
-    let mut run = prepared(&mut memory, p);
+    let fresh = Controller::new(p.mechanism, WORD);
+    let mut controller = fresh.controller;
+    let mut run = prepare(&mut controller.words, &mut memory, p);
     let mut i: u64 = 0;
     while i < p.batches {
-        run = batch(run, &mut memory, p);
+        run = batch(&mut controller.words, run, &mut memory, p);
         i += 1;
     }
     run.digest

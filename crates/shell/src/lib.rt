@@ -4,7 +4,6 @@ ghost use lib.ListN.{length};
 ghost use Rattle.shell.specs.Ready.{Ready};
 use crate::queue::call;
 use crate::queue::show;
-use controller::Controller;
 use stateless::codec::check;
 use stateless::codec::in_memory;
 use stateless::poke::poke;
@@ -12,6 +11,8 @@ use stateless::reply::Reply;
 use stateless::text::Text;
 use stateless::text::peek;
 use stateless::text::walk;
+use store::Controller;
+use store::WORDS;
 use words::arguments::Arguments;
 use words::arguments::read;
 use words::command::Command;
@@ -84,18 +85,13 @@ impl Shell {
         }
     }
 
-    fn call(self, memory: &mut [u8], command: Command, a: [u64; 16]) -> Ran
+    fn call(mut self, memory: &mut [u8], command: Command, a: [u64; 16]) -> Ran
         requires { ⌜ Ready self ⌝ }
         ensures { λ r. ⌜ Ready (r .shell) ⌝ }
     {
-        let called = call(self.controller, memory, command, a);
-        let controller = called.controller;
-        let reply = called.reply;
+        let reply = call(&mut self.controller.words, memory, command, a);
         Ran {
-            shell: Shell {
-                controller: controller,
-                lent: self.lent,
-            },
+            shell: self,
             reply: reply,
         }
     }
@@ -103,7 +99,7 @@ impl Shell {
 
 // The commands that leave the controller as it is and answer with numbers.
 fn look(
-    c: Controller,
+    state: &[u64; WORDS],
     memory: &mut [u8],
     line: &[u8],
     at: usize,
@@ -117,7 +113,7 @@ fn look(
         Command::Poke => poke(memory, line, at, a, false),
         Command::Poke64 => poke(memory, line, at, a, true),
         Command::CheckTail | Command::CheckHead => check(command, numbers),
-        Command::ShowSq | Command::ShowCq | Command::ShowTag => show(c, command, numbers),
+        Command::ShowSq | Command::ShowCq | Command::ShowTag => show(state, command, numbers),
         _ => in_memory(memory, command, numbers),
     }
 }
@@ -146,7 +142,7 @@ fn run(
         | Command::Finish => shell.call(memory, command, numbers),
         _ => Ran {
             shell: shell,
-            reply: look(shell.controller, memory, line, at, command, a),
+            reply: look(&shell.controller.words, memory, line, at, command, a),
         },
     }
 }

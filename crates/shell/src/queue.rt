@@ -1,11 +1,6 @@
 // The calls of the model, and what a controller holds.
-ghost use mathlib.Core.Path.{_≡_};
-ghost use Rattle.controller.specs.Calls.{Reachable};
-use controller::Changed;
-use controller::Controller;
-use controller::Finish;
+ghost use Rattle.store.specs.Held.{Reached};
 use controller::Finished;
-use controller::Start;
 use controller::Started;
 use doorbells::head_write;
 use doorbells::tail_write;
@@ -16,23 +11,15 @@ use starter::start;
 use stateless::codec::low32;
 use stateless::reply::Reply;
 use stateless::reply::bit;
+use store::Controller;
+use store::WORDS;
+use store::command_at;
+use store::cq_at;
+use store::free_of;
+use store::is_outstanding;
+use store::reset;
+use store::sq_at;
 use words::command::Command;
-
-// A reply, and the controller that is left.
-pub struct Called {
-    pub controller: Controller,
-    pub reply: Reply,
-}
-
-fn of_changed(r: Changed) -> Called
-    ensures { λ x. ⌜ x .controller ≡ r .controller ⌝ }
-{
-    let controller = r.controller;
-    Called {
-        controller: controller,
-        reply: Reply::of(r.refusal),
-    }
-}
 
 // The SQ, how many commands, their tags, the first slot and the verdict.
 fn started(answer: Started) -> Reply {
@@ -66,17 +53,6 @@ fn started(answer: Started) -> Reply {
     }
 }
 
-fn of_start(r: Start) -> Called
-    ensures { λ x. ⌜ x .controller ≡ r .controller ⌝ }
-{
-    let controller = r.controller;
-    let answer = r.answer;
-    Called {
-        controller: controller,
-        reply: started(answer),
-    }
-}
-
 // The slot.
 fn finished(answer: Finished) -> Reply {
     match answer {
@@ -85,40 +61,28 @@ fn finished(answer: Finished) -> Reply {
     }
 }
 
-fn of_finish(r: Finish) -> Called
-    ensures { λ x. ⌜ x .controller ≡ r .controller ⌝ }
-{
-    let controller = r.controller;
-    let answer = r.answer;
-    Called {
-        controller: controller,
-        reply: finished(answer),
-    }
-}
-
 // Makes a call, or a fresh controller.
-pub fn call(c: Controller, memory: &mut [u8], command: Command, a: [u64; 16]) -> Called
-    requires { ⌜ Reachable c ⌝ }
-    ensures { λ r. ⌜ Reachable (r .controller) ⌝ }
+pub fn call(state: &mut [u64; WORDS], memory: &mut [u8], command: Command, a: [u64; 16]) -> Reply
+    requires { ⌜ Reached (now state) ⌝ }
+    ensures { λ _. ⌜ Reached (now (state .exit)) ⌝ }
 {
     match command {
-        Command::CreateCq => of_changed(create_cq(c, memory, a[0], a[1], a[2])),
-        Command::CreateSq => of_changed(create_sq(c, memory, a[0], a[1], a[2], a[3], a[4])),
-        Command::Tail => of_changed(tail_write(c, a[0], a[1])),
-        Command::Head => of_changed(head_write(c, a[0], a[1])),
-        Command::Start => of_start(start(c, memory)),
-        Command::Finish => of_finish(finish(c, memory, a[0], a[1], low32(a[2]))),
-        _ => of_changed(Controller::new(a[0], low32(a[1]))),
+        Command::CreateCq => Reply::of(create_cq(state, memory, a[0], a[1], a[2])),
+        Command::CreateSq => Reply::of(create_sq(state, memory, a[0], a[1], a[2], a[3], a[4])),
+        Command::Tail => Reply::of(tail_write(state, a[0], a[1])),
+        Command::Head => Reply::of(head_write(state, a[0], a[1])),
+        Command::Start => started(start(state, memory)),
+        Command::Finish => finished(finish(state, memory, a[0], a[1], low32(a[2]))),
+        _ => Reply::of(reset(state, a[0], low32(a[1]))),
     }
 }
 
-fn show_sq(c: Controller, a: [u64; 16]) -> Reply {
+fn show_sq(state: &[u64; WORDS], a: [u64; 16]) -> Reply {
     let id = a[0];
     if Controller::LAST_QUEUE < id {
         return Reply::bad();
     }
-    let i = id as usize;
-    let q = c.sqs[i];
+    let q = sq_at(state, id as usize);
     let r = q.ring;
     Reply::of(bit(r.exists))
         .and(r.base)
@@ -130,13 +94,12 @@ fn show_sq(c: Controller, a: [u64; 16]) -> Reply {
         .and_bit(q.marked)
 }
 
-fn show_cq(c: Controller, a: [u64; 16]) -> Reply {
+fn show_cq(state: &[u64; WORDS], a: [u64; 16]) -> Reply {
     let id = a[0];
     if Controller::LAST_QUEUE < id {
         return Reply::bad();
     }
-    let i = id as usize;
-    let q = c.cqs[i];
+    let q = cq_at(state, id as usize);
     let r = q.ring;
     Reply::of(bit(r.exists))
         .and(r.base)
@@ -146,23 +109,22 @@ fn show_cq(c: Controller, a: [u64; 16]) -> Reply {
         .and8(q.phase)
 }
 
-fn show_tag(c: Controller, a: [u64; 16]) -> Reply {
+fn show_tag(state: &[u64; WORDS], a: [u64; 16]) -> Reply {
     let tag = a[0];
     if Controller::LAST_TAG < tag {
         return Reply::bad();
     }
-    if !controller::is_outstanding(c.free, tag) {
+    if !is_outstanding(free_of(state), tag) {
         return Reply::refused(0, 4);
     }
-    let i = tag as usize;
-    let k = c.commands[i];
+    let k = command_at(state, tag as usize);
     Reply::of(1).and8(k.sq).and16(k.cid).and16(k.verdict)
 }
 
-pub fn show(c: Controller, command: Command, a: [u64; 16]) -> Reply {
+pub fn show(state: &[u64; WORDS], command: Command, a: [u64; 16]) -> Reply {
     match command {
-        Command::ShowSq => show_sq(c, a),
-        Command::ShowCq => show_cq(c, a),
-        _ => show_tag(c, a),
+        Command::ShowSq => show_sq(state, a),
+        Command::ShowCq => show_cq(state, a),
+        _ => show_tag(state, a),
     }
 }

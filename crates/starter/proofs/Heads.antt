@@ -2,14 +2,13 @@
 use Prim.Native.Nat.{ℕ, _+_, _-_, _≤_}
 use mathlib.Core.Bool.{Bool, true, false, not, _&&_, and-assoc}
 use mathlib.Core.List.{List}
-use mathlib.Core.Logic.{⊎-elim}
 use mathlib.Core.Path.{_≡_, sym, ap, _∙_}
 use native.Mathlib.Omega.{arith}
 use lib.Dec.{leb, eqb}
 use lib.ListN.{length, take, drop}
-use borrow.Author.Tests.{le-ltb, eq-eqb, ne-eqb}
+use borrow.Author.Tests.{le-ltb}
 use Rattle.rules.specs.Rules.{settle}
-use Rattle.rules.proofs.Tests.{bool-cases, not-no, not-yes}
+use Rattle.rules.proofs.Tests.{not-no, not-yes}
 use Rattle.le.specs.Memory.{Memory, part}
 use Rattle.entry.specs.Submission.{submissionAt, submissionRead}
 use Rattle.entry.specs.declared.submission.Submission.{Submission}
@@ -17,8 +16,6 @@ use Rattle.entry.specs.declared.submission.SubmissionRead.the-variants.{Entry, 
 use Rattle.ring.specs.Slots.{next, distance}
 use Rattle.controller.specs.declared.Ring.{Ring}
 use Rattle.controller.specs.Starting.{entryAt, isPair}
-use Rattle.starter.specs.declared.head.Head.the-variants.{One, Pair}
-use Rattle.starter.specs.Taking.{headOf}
 
 -- the bytes between two places
 pub part-between : (m : Memory) (o n : ℕ) → take (o + n - o) (drop o m) ≡ part m o n
@@ -37,7 +34,7 @@ module _ (b : List ℕ) (h : 64 ≤ length b) where
   pub entry-read : {e : Submission} → submissionRead b ≡ Entry e → e ≡ submissionAt b
   entry-read e = let q = entry-there in cc
 
--- a pair, and what is taken alone: the next entry counts where FUSE 1 stands at the head of a queue other than 0, with a follower
+-- a pair: the next entry counts where FUSE 1 stands at the head of a queue other than 0, with a follower
 module _ (m : Memory) (id : ℕ) (r : Ring) {e : Submission} (x : e ≡ entryAt m r (r .head)) {d : ℕ}
     (y : d ≡ distance (r .size) (r .head) (r .tail)) where
   abbrev opens : Bool
@@ -49,32 +46,8 @@ module _ (m : Memory) (id : ℕ) (r : Ring) {e : Submission} (x : e ≡ entryAt 
       rw (x, y)
       (sym (and-assoc (not (eqb id 0)) _ _ ∙ ap (λ (b : Bool). not (eqb id 0) && b) (and-assoc (eqb (entryAt m r (r .head) .fuse) 1) _ _)))
 
-  pub alone : not opens ≡ true → One e ≡ headOf m id r
-  unfolding headOf
-  alone h = rw (pair-is, not-yes opens h, x)
+  pub alone : not opens ≡ true → false ≡ isPair id r m
+  alone h = rw (pair-is, not-yes opens h)
 
-  module _ (h : not opens ≡ false) {s : ℕ} (n : s ≡ next (r .size) (r .head)) {f : Submission} (z : f ≡ entryAt m r s) where
-    pub unfollowed : (f .fuse ≡ 2 → ⊥) → One e ≡ headOf m id r
-    unfolding headOf
-    unfollowed k = rw (pair-is, not-no opens h, ← n, ← z, ne-eqb (f .fuse) 2 k, x)
-
-    pub paired : f .fuse ≡ 2 → Pair e f ≡ headOf m id r
-    unfolding headOf
-    paired k = rw (pair-is, not-no opens h, ← n, ← z, eq-eqb (f .fuse) 2 k, x)
-
--- what stands at the head, taken apart
-module _ (m : Memory) (id : ℕ) (r : Ring) where
-  pub head-one : {e : Submission} → headOf m id r ≡ One e → (isPair id r m ≡ false) × (e ≡ entryAt m r (r .head))
-  unfolding headOf
-  head-one {e} h =
-      ⊎-elim (λ (y : isPair id r m ≡ true). let q = rw y at h in let z : _≡_ {A = ℕ} 0 1 = cc in absurd (omega arith))
-      (λ (n : isPair id r m ≡ false). let q : One (entryAt m r (r .head)) ≡ One e = rw n at h in (n, cc)) (bool-cases (isPair id r m))
-
-  pub head-pair : {e f : Submission} → headOf m id r ≡ Pair e f
-      → (isPair id r m ≡ true) × (e ≡ entryAt m r (r .head)) × (f ≡ entryAt m r (next (r .size) (r .head)))
-  unfolding headOf
-  head-pair {e} {f} h =
-      ⊎-elim (λ (y : isPair id r m ≡ true).
-      let q : Pair (entryAt m r (r .head)) (entryAt m r (next (r .size) (r .head))) ≡ Pair e f = rw y at h in (y, cc, cc))
-      (λ (n : isPair id r m ≡ false). let q = rw n at h in let z : _≡_ {A = ℕ} 0 1 = cc in absurd (omega arith))
-      (bool-cases (isPair id r m))
+  pub followed : not opens ≡ false → {f : Submission} → f ≡ entryAt m r (next (r .size) (r .head)) → eqb (f .fuse) 2 ≡ isPair id r m
+  followed h z = rw (pair-is, not-no opens h, ← z)

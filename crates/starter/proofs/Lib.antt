@@ -1,4 +1,4 @@
-pub mod Surveys
+pub mod Masks
 pub mod Verdicts
 pub mod Heads
 pub mod Takings

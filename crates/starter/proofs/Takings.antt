@@ -1,155 +1,105 @@
 -- Laws of what a start takes. Assumes nothing.
-use Prim.Native.Nat.{ℕ, _≤_, _<_, _^_}
+use Prim.Native.Nat.{ℕ, _+_, _-_, _%_, _≤_, _<_}
 use mathlib.Core.Bool.{Bool, true, false, _||_}
-use mathlib.Core.List.{List}
 use mathlib.Core.Path.{_≡_, refl, sym, ap, _∙_}
+use native.Mathlib.Nat.{mod-eq-of-lt, mod-eq-sub-mod}
 use native.Mathlib.Omega.{arith}
-use lib.Dec.{eqb}
 use lib.ListN.{length, set}
-use lib.Seq.{set-set}
-use borrow.Author.Tests.{eq-eqb, ne-eqb}
-use Rattle.rules.specs.Rules.{pick, settle}
-use Rattle.rules.proofs.Tests.{pick-yes, pick-no}
+use Rattle.rules.specs.Rules.{settle}
 use Rattle.bits.specs.Tags.{takenOne, takenTwo}
-use Rattle.bits.specs.declared.TakenOne.{TakenOne}
 use Rattle.bits.specs.declared.TakenOne.the-variants.{Tag, NoneFree}
-use Rattle.bits.specs.declared.TakenTwo.{TakenTwo}
 use Rattle.bits.specs.declared.TakenTwo.the-variants.{Tags, TooFew}
-use Rattle.bits.proofs.Tags.{one-taken, two-taken}
 use Rattle.le.specs.Memory.{Memory}
 use Rattle.entry.specs.declared.submission.Submission.{Submission}
+use Rattle.ring.specs.Slots.{next}
 use Rattle.arbiter.specs.Arbiter.{choice}
 use Rattle.arbiter.specs.declared.Arbiter.{Arbiter}
 use Rattle.arbiter.specs.declared.Chosen.{Chosen}
 use Rattle.arbiter.specs.declared.Chosen.the-variants.{Queue}
-use Rattle.controller.specs.declared.Ring.{Ring}
 use Rattle.controller.specs.declared.SubmissionQueue.{SubmissionQueue}
-use Rattle.controller.specs.declared.Command.{Command}
-use Rattle.controller.specs.declared.Controller.{Controller}
-use Rattle.controller.specs.State.{withSq, withCommands, sqAt}
-use Rattle.controller.specs.Rings.{someCq, endsPast, outside}
-use Rattle.controller.specs.Verdict.{inUse, verdictOne, verdictPair}
+use Rattle.controller.specs.declared.Started.the-variants as S
+use Rattle.controller.specs.Controller.{Controller}
+use Rattle.controller.specs.State.{sqAt, withHead, sqWithRing, withSq, withCommands}
+use Rattle.controller.specs.Rings.{outside}
+use Rattle.controller.specs.Verdict.{verdictOne, verdictPair}
 use Rattle.controller.specs.Valid.{Valid}
 use Rattle.controller.specs.Answers.{Outcome, outcome, refusing}
-use Rattle.controller.specs.Starting.{candidates, passed, oneTaken, pairTaken, withOne, withTwo, takeOne, takePair, takeFrom, start}
+use Rattle.controller.specs.Starting.{candidates, entryAt, isPair, passed, command, oneTaken, pairTaken, used, headEntry, nextEntry}
+use Rattle.controller.specs.Starting.{takeOne, takePair, takeFrom, start}
 use Rattle.controller.specs.Calls.{ofStarted}
 use Rattle.controller.proofs.Choosing.{chosen}
 use Rattle.controller.proofs.Validity.{candidate-here}
 use Rattle.controller.proofs.Apart as ring
 use Rattle.controller.proofs.Apart.{ring-inside}
-use Rattle.queues.proofs.Bounds.{outside-halves}
-use Rattle.starter.specs.declared.head.Head.{Head}
-use Rattle.starter.specs.declared.head.Head.the-variants.{One, Pair}
-use Rattle.starter.specs.declared.survey.Survey.{Survey}
-use Rattle.starter.specs.declared.take.Taken.{Taken}
-use Rattle.starter.specs.Survey.{surveyed}
-use Rattle.starter.specs.Taking.{headOf, Inside, tooFew, single, double, ofOne, ofTwo, takenAlone, takenBoth, takenOf}
-use Rattle.starter.proofs.Heads.{head-one, head-pair}
+use Rattle.starter.specs.Inside.{Inside}
 
 or-same : (b : Bool) → (b || b) ≡ b
 or-same true = refl
 or-same false = refl
 
--- ---- what is taken
+-- a slot past the last
+pub wraps : (s x : ℕ) → s ≤ x → x < s + s → x - s ≡ x % s
+wraps s x g h = sym (mod-eq-sub-mod g ∙ mod-eq-of-lt (omega arith))
 
--- at most two commands, and tags that there are
-pub record Bounded (k : Taken) : Type 0 where
-  pub few : k .count ≤ 2
-  pub first : k .first < 64
-  pub second : k .second < 64
+-- ---- the stores, one after another
 
-module _ (ks : List Command) (free id slot : ℕ) where
-  module _ (e : Submission) where
-    pub alone-none : takenOne free ≡ NoneFree → tooFew ≡ takenAlone ks free id slot e
-    unfolding takenAlone
-    alone-none q = rw q
+module _ (c : Controller) where
+  pub passed-on : (i n : ℕ) {q : SubmissionQueue} → q ≡ sqAt c i → {v : ℕ} → v ≡ (q .ring .head + n) % q .ring .size
+      → {d : Controller} → d ≡ withSq c i (sqWithRing (sqAt c i) (withHead (sqAt c i .ring) v))
+      → d ≡ withSq c i (passed (sqAt c i) n)
+  passed-on i n e f g = rw (g, f, e)
 
-    pub alone-is : {t left : ℕ} → takenOne free ≡ Tag t left → {u : Bool} → u ≡ (inUse ks free id (e .cid) || inUse ks free id (e .cid))
-        → {v : ℕ} → v ≡ verdictOne id e u → single id slot e v t left ≡ takenAlone ks free id slot e
-    unfolding takenAlone
-    alone-is q x y = rw (y, x, or-same, q)
+  pub left-with : (d e : Controller) (free : ℕ) (a : Arbiter) → d ≡ withCommands c (c .commands) free (c .arbiter)
+      → e ≡ withCommands d (d .commands) (d .free) a
+      → e ≡ withCommands c (c .commands) free a
+  left-with d e free a p q = rw (q, p)
 
-  module _ (e f : Submission) where
-    pub both-none : takenTwo free ≡ TooFew → tooFew ≡ takenBoth ks free id slot e f
-    unfolding takenBoth
-    both-none q = rw q
-
-    pub both-is : {t u left : ℕ} → takenTwo free ≡ Tags t u left
-        → {v : ℕ} → v ≡ verdictPair e f (inUse ks free id (e .cid)) (inUse ks free id (f .cid))
-        → double id slot e f v t u left ≡ takenBoth ks free id slot e f
-    unfolding takenBoth
-    both-is q y = rw (y, q)
-
-  pub bounded : free < 2 ^ 64 → (h : Head) {k : Taken} → k ≡ takenOf ks free id slot h → Bounded k
-  unfolding takenAlone takenBoth takenOf
-  bounded l h q = rw q (of h)
-    where
-      of-one : {f : ℕ → ℕ → Taken} → ((t left : ℕ) → t < 64 → Bounded (f t left)) → (x : TakenOne) → takenOne free ≡ x
-          → Bounded (ofOne f x)
-      of-one g NoneFree q = record { few = omega arith; first = omega arith; second = omega arith }
-      of-one g (Tag t left) q = g t left (one-taken free l q .low)
-
-      of-two : {f : ℕ → ℕ → ℕ → Taken} → ((t u left : ℕ) → t < 64 → u < 64 → Bounded (f t u left)) → (x : TakenTwo) → takenTwo free ≡ x
-          → Bounded (ofTwo f x)
-      of-two g TooFew q = record { few = omega arith; first = omega arith; second = omega arith }
-      of-two g (Tags t u left) q = let w = two-taken free l q in g t u left (w .first .low) (w .second .low)
-
-      of : (h : Head) → Bounded (takenOf ks free id slot h)
-      of (One e) = of-one (λ t left b. record { few = omega arith; first = b; second = b }) (takenOne free) refl
-      of (Pair e f) = of-two (λ t u left b d. record { few = omega arith; first = b; second = d }) (takenTwo free) refl
-
--- ---- the start that takes it
-
--- the answer and the controller, with queue id as it is left and the commands stored
-abbrev storing : Controller → Memory → ℕ → Arbiter → Taken → SubmissionQueue → Outcome
-storing c m id a k q =
-    outcome (ofStarted (k .answer))
-    (withCommands (withSq c id q) (set (set (c .commands) (k .first) (k .one)) (k .second) (k .other)) (k .left) a) m
-
-abbrev startOf : Controller → Memory → ℕ → Arbiter → Taken → Outcome
-startOf c m id a k = pick (eqb (k .count) 0) (refusing c m 13) (storing c m id a k (passed (sqAt c id) (k .count)))
+-- ---- what is taken from queue id, with the arbiter a left
 
 module _ (c : Controller) (m : Memory) (id : ℕ) (a : Arbiter) where
-  abbrev r : Ring
-  r = sqAt c id .ring
+  pub one-refused : takenOne (c .free) ≡ NoneFree → refusing c m 13 ≡ takeOne c m id a
+  unfolding takeOne
+  one-refused q = rw q
 
-  start-one : (e : Submission) (v : ℕ) (x : TakenOne)
-      → startOf c m id a (ofOne (single id (r .head) e v) x) ≡ withOne c m (oneTaken c m id a e v) x
-  unfolding oneTaken
-  start-one e v NoneFree = refl
-  start-one e v (Tag t left) = rw set-set
+  pub pair-refused : takenTwo (c .free) ≡ TooFew → refusing c m 13 ≡ takePair c m id a
+  unfolding takePair
+  pair-refused q = rw q
 
-  start-pair : (e f : Submission) (v : ℕ) (x : TakenTwo)
-      → startOf c m id a (ofTwo (double id (r .head) e f v) x) ≡ withTwo c m (pairTaken c m id a e f v) x
-  unfolding pairTaken
-  start-pair e f v TooFew = refl
-  start-pair e f v (Tags t u left) = refl
+  -- the head moves, then the command is stored, then the tags and the turn that are left
+  pub one-started : {e : Submission} → e ≡ headEntry c m id → {t left : ℕ} → takenOne (c .free) ≡ Tag t left
+      → {u : Bool} → u ≡ (used c id e || used c id e) → {v : ℕ} → v ≡ verdictOne id e u
+      → {slot : ℕ} → slot ≡ sqAt c id .ring .head
+      → (d k l : Controller) → d ≡ withSq c id (passed (sqAt c id) 1)
+      → k ≡ withCommands d (set (d .commands) t (command id (e .cid) v 0 0)) (d .free) (d .arbiter)
+      → l ≡ withCommands k (k .commands) left a
+      → outcome (ofStarted (S.One id t slot v)) l m ≡ takeOne c m id a
+  unfolding takeOne oneTaken
+  one-started h q x y s d k l f g w = rw (w, g, f, s, y, x, or-same, h, q)
 
-  start-head : (h : Head) → headOf m id r ≡ h
-      → startOf c m id a (takenOf (c .commands) (c .free) id (r .head) h) ≡ takeFrom c m (Queue id a)
-  unfolding takenAlone takenBoth takenOf takeOne takePair
-  start-head (One e) p = let w = head-one m id r p in rw (w .0, ← w .1) (start-one e _ (takenOne (c .free)))
-  start-head (Pair e f) p = let w = head-pair m id r p in rw (w .0, ← w .1, ← w .2) (start-pair e f _ (takenTwo (c .free)))
+  pub pair-started : {e f : Submission} → e ≡ headEntry c m id → f ≡ nextEntry c m id
+      → {t u left : ℕ} → takenTwo (c .free) ≡ Tags t u left
+      → {v : ℕ} → v ≡ verdictPair e f (used c id e) (used c id f)
+      → {slot : ℕ} → slot ≡ sqAt c id .ring .head
+      → (d j k l : Controller) → d ≡ withSq c id (passed (sqAt c id) 2)
+      → j ≡ withCommands d (set (d .commands) t (command id (e .cid) v 0 (u + 1))) (d .free) (d .arbiter)
+      → k ≡ withCommands j (set (j .commands) u (command id (f .cid) v (t + 1) 0)) (j .free) (j .arbiter)
+      → l ≡ withCommands k (k .commands) left a
+      → outcome (ofStarted (S.Pair id t u slot v)) l m ≡ takePair c m id a
+  unfolding takePair pairTaken
+  pair-started h i q y s d j k l f g w z = rw (z, w, g, f, s, y, h, i, q)
 
-  module _ {h : Head} (p : h ≡ headOf m id r) {k : Taken} (q : k ≡ takenOf (c .commands) (c .free) id (r .head) h) where
-    pub start-too-few : k .count ≡ 0 → refusing c m 13 ≡ takeFrom c m (Queue id a)
-    start-too-few z = sym (pick-yes _ _ (eq-eqb (k .count) 0 z)) ∙ ap (startOf c m id a) q ∙ start-head h (sym p)
+  -- by what stands at the head of the queue that was read
+  module _ {q : SubmissionQueue} (e : q ≡ sqAt c id) {p : Bool} (f : p ≡ isPair id (q .ring) m)
+      {x : Submission} (g : x ≡ entryAt m (q .ring) (q .ring .head)) {o : Outcome} where
+    pub from-one : p ≡ false → (x ≡ headEntry c m id → o ≡ takeOne c m id a) → o ≡ takeFrom c m (Queue id a)
+    from-one n k = k (rw (← e) g) ∙ rw (← e, ← f, n)
 
-    pub start-taken : (k .count ≡ 0 → ⊥) → {s : SubmissionQueue} → s ≡ passed (sqAt c id) (k .count)
-        → storing c m id a k s ≡ takeFrom c m (Queue id a)
-    start-taken n w =
-        ap (storing c m id a k) w ∙ sym (pick-no _ _ (ne-eqb (k .count) 0 n)) ∙ ap (startOf c m id a) q ∙ start-head h (sym p)
+    pub from-pair : p ≡ true → {y : Submission} → y ≡ entryAt m (q .ring) (next (q .ring .size) (q .ring .head))
+        → (x ≡ headEntry c m id → y ≡ nextEntry c m id → o ≡ takePair c m id a)
+        → o ≡ takeFrom c m (Queue id a)
+    from-pair n h k = k (rw (← e) g) (rw (← e) h) ∙ rw (← e, ← f, n)
 
 -- ---- the start
-
-module _ (c : Controller) (n : ℕ) {s : Survey} (e : s ≡ surveyed c n 16) where
-  pub outside-found : {b : Bool} → b ≡ someCq (c .cqs) (endsPast n) → (s .outside || b) ≡ outside c n
-  unfolding surveyed
-  outside-found f = rw (e, f) (sym (outside-halves c n))
-
-  pub candidates-found : s .candidates ≡ candidates c
-  unfolding surveyed candidates
-  candidates-found = rw e
 
 module _ (c : Controller) (m : Memory) where
   pub start-outside : outside c (length m) ≡ true → refusing c m 5 ≡ start c m

@@ -1,2 +1,2 @@
-pub mod Survey
-pub mod Taking
+pub mod Masks
+pub mod Inside

@@ -3,19 +3,14 @@ ghost use mathlib.Core.Path.{_≡_};
 ghost use Prim.Native.Nat.{_≤_, _<_};
 ghost use lib.ListN.{length};
 ghost use Rattle.entry.specs.Submission.{submissionAt};
-ghost use Rattle.controller.specs.Starting.{entryAt};
-ghost use Rattle.starter.specs.Taking.{headOf, Inside};
+ghost use Rattle.ring.specs.Slots.{next};
+ghost use Rattle.controller.specs.Starting.{entryAt, isPair};
+ghost use Rattle.starter.specs.Inside.{Inside};
 use controller::Ring;
 use entry::submission::Submission;
 use entry::submission::SubmissionRead;
 use ring::slots::distance_in;
 use ring::slots::next_slot;
-
-// A command, or a pair.
-pub enum Head {
-    One(Submission),
-    Pair(Submission, Submission),
-}
 
 // What stands for no entry, where a reader refuses.
 fn blank() -> Submission {
@@ -58,21 +53,33 @@ fn entry_at(memory: &[u8], r: Ring, p: u64) -> Submission
     read(&memory[from..to])
 }
 
-// What one start takes from queue id. Nothing at or past the tail is read: the next slot only if at least two entries are submitted.
-pub fn head_of(memory: &[u8], id: u8, r: Ring) -> Head
+// The entry at the head, and the one after it.
+pub fn first_entry(memory: &[u8], r: Ring) -> Submission
     requires { ⌜ Inside (length (now memory)) r ⌝ }
-    ensures { λ x. ⌜ x ≡ headOf (now (memory .entry)) id r ⌝ }
+    ensures { λ x. ⌜ x ≡ entryAt (now (memory .entry)) r (r .head) ⌝ }
 {
-    let size = r.size as u64;
-    let head = r.head as u64;
-    let submitted = distance_in(size, head, r.tail as u64);
-    let first = entry_at(memory, r, head);
+    entry_at(memory, r, r.head as u64)
+}
+
+pub fn second_entry(memory: &[u8], r: Ring) -> Submission
+    requires { ⌜ Inside (length (now memory)) r ⌝ }
+    ensures { λ x. ⌜ x ≡ entryAt (now (memory .entry)) r (next (r .size) (r .head)) ⌝ }
+{
+    let p = next_slot(r.size as u64, r.head as u64);
+    entry_at(memory, r, p)
+}
+
+// Whether a pair stands at the head of queue id. Nothing at or past the tail is read: the next slot only if at least two entries are
+// submitted.
+pub fn is_pair(memory: &[u8], id: u8, r: Ring) -> bool
+    requires { ⌜ Inside (length (now memory)) r ⌝ }
+    ensures { λ x. ⌜ x ≡ isPair id r (now (memory .entry)) ⌝ }
+{
+    let submitted = distance_in(r.size as u64, r.head as u64, r.tail as u64);
+    let first = first_entry(memory, r);
     if !((id != 0) & ((first.fuse == 1) & (2 <= submitted))) {
-        return Head::One(first);
+        return false;
     }
-    let second = entry_at(memory, r, next_slot(size, head));
-    if second.fuse != 2 {
-        return Head::One(first);
-    }
-    Head::Pair(first, second)
+    let second = second_entry(memory, r);
+    second.fuse == 2
 }

@@ -1,148 +1,142 @@
 // Taking a command, or a pair, from the queue that was chosen.
 ghost use mathlib.Core.Path.{_≡_};
-ghost use Prim.Native.Nat.{_≤_};
-ghost use Rattle.controller.specs.Starting.{passed};
+ghost use Prim.Native.Nat.{_+_, _%_, _≤_, _<_};
+ghost use Rattle.le.specs.Memory.{Memory};
+ghost use Rattle.controller.specs.Answers.{outcome};
+ghost use Rattle.controller.specs.Calls.{ofStarted};
+ghost use Rattle.controller.specs.Starting.{passed, headEntry, nextEntry, takeOne, takePair};
+ghost use Rattle.controller.specs.State.{sqAt, withSq, withCommands};
 ghost use Rattle.controller.specs.Valid.{RingOk};
-ghost use Rattle.starter.specs.Taking.{tooFew, takenAlone, takenBoth, takenOf};
-use crate::head::Head;
+ghost use Rattle.store.specs.Held.{held, Sound, Holds};
 use crate::verdict::in_use;
 use crate::verdict::verdict_one;
 use crate::verdict::verdict_pair;
+use arbiter::Arbiter;
 use bits::TakenOne;
 use bits::TakenTwo;
 use controller::Command;
+use controller::Ring;
 use controller::Started;
-use controller::SubmissionQueue;
 use entry::submission::Submission;
+use store::WORDS;
+use store::free_of;
+use store::put_arbiter;
+use store::put_command;
+use store::put_free;
+use store::put_sq_head;
+use store::sq_at;
 
-// How many commands are taken, 0 where too few tags are free; their tags and what to store at them, for one command twice the same;
-// the tags that are left; and the answer.
-pub struct Taken {
-    pub count: u16,
-    pub first: usize,
-    pub second: usize,
-    pub one: Command,
-    pub other: Command,
-    pub left: u64,
-    pub answer: Started,
+// The head of a ring, moved past n commands.
+fn moved(r: Ring, n: u16) -> u16
+    requires { ⌜ RingOk r × (n ≤ 2) ⌝ }
+    ensures { λ x. ⌜ x ≡ (r .head + n) % r .size ⌝ }
+{
+    let size = r.size;
+    let next = r.head + n;
+    if next < size { next } else { next - size }
 }
 
-fn too_few() -> Taken
-    ensures { λ r. ⌜ r ≡ tooFew ⌝ }
+// The head of queue i moves past n commands. The answer is the slot where it stood.
+fn pass(state: &mut [u64; WORDS], i: usize, n: u16) -> u16
+    requires { ⌜ (i < 16) × (n ≤ 2) × Sound (now state) × RingOk (sqAt (held (now state)) i .ring) ⌝ }
+    ensures { λ r. ⌜ (let c = held (now (state .entry)) in
+        (r ≡ sqAt c i .ring .head) × Holds (now (state .exit)) (withSq c i (passed (sqAt c i) n))) ⌝ }
 {
-    let none = Command {
-        sq: 0,
-        cid: 0,
-        verdict: 0,
-        first: 0,
-        second: 0,
-    };
-    Taken {
-        count: 0,
-        first: 0,
-        second: 0,
-        one: none,
-        other: none,
-        left: 0,
-        answer: Started::Refused(13),
-    }
+    let q = sq_at(state, i);
+    let r = q.ring;
+    put_sq_head(state, i, moved(r, n));
+    r.head
 }
 
-// The queue with its head moved past n commands.
-pub fn with_passed(q: SubmissionQueue, n: u16) -> SubmissionQueue
-    requires { ⌜ RingOk (q .ring) × (n ≤ 2) ⌝ }
-    ensures { λ r. ⌜ r ≡ passed q n ⌝ }
+// The tags that are left free, and whose turn it is then.
+fn leave(state: &mut [u64; WORDS], free: u64, arbiter: Arbiter)
+    requires { ⌜ Sound (now state) ⌝ }
+    ensures { λ _. ⌜ (let c = held (now (state .entry)) in
+        Holds (now (state .exit)) (withCommands c (c .commands) free arbiter)) ⌝ }
 {
-    let mut r = q.ring;
-    r.head = (r.head + n) % r.size;
-    let mut next = q;
-    next.ring = r;
-    next
+    put_free(state, free);
+    put_arbiter(state, arbiter);
 }
 
-// The entry e in a slot of queue id is taken with the lowest free tag.
-fn take_one(commands: [Command; 64], free: u64, id: u8, slot: u16, e: Submission) -> Taken
-    ensures { λ r. ⌜ r ≡ takenAlone commands free id slot e ⌝ }
+// The entry e at the head of queue id is taken with the lowest free tag.
+pub fn take_one(state: &mut [u64; WORDS], id: u8, next: Arbiter, e: Submission) -> Started
+    requires { ⌜ (id < 16) × Sound (now state) × RingOk (sqAt (held (now state)) id .ring) ⌝ }
+    ensures { λ r. ⌜ Sound (now (state .exit)) × (let c = held (now (state .entry)) in
+        (m : Memory) → e ≡ headEntry c m id → outcome (ofStarted r) (held (now (state .exit))) m ≡ takeOne c m id next) ⌝ }
 {
-    let TakenOne::Tag(tag, left) = bits::take_one(free) else {
-        return too_few();
+    let TakenOne::Tag(tag, left) = bits::take_one(free_of(state)) else {
+        return Started::Refused(13);
     };
-    let verdict = verdict_one(id, e, in_use(commands, free, id, e.cid, e.cid));
-    let k = Command {
-        sq: id,
-        cid: e.cid,
-        verdict: verdict,
-        first: 0,
-        second: 0,
-    };
-    Taken {
-        count: 1,
-        first: tag as usize,
-        second: tag as usize,
-        one: k,
-        other: k,
-        left: left,
-        answer: Started::One {
+    let t = tag as u8;
+    let verdict = verdict_one(id, e, in_use(state, id, e.cid, e.cid));
+    let slot = pass(state, id as usize, 1);
+    put_command(
+        state,
+        tag as usize,
+        Command {
             sq: id,
-            tag: tag as u8,
-            slot: slot,
+            cid: e.cid,
             verdict: verdict,
+            first: 0,
+            second: 0,
         },
+    );
+    leave(state, left, next);
+    Started::One {
+        sq: id,
+        tag: t,
+        slot: slot,
+        verdict: verdict,
     }
 }
 
-// The pair of entries e and f, the first in a slot of queue id, is taken with the two lowest free tags, each half linked to the other.
-fn take_pair(
-    commands: [Command; 64],
-    free: u64,
+// The entries e and f at the head of queue id are taken with the two lowest free tags, each half linked to the other.
+pub fn take_pair(
+    state: &mut [u64; WORDS],
     id: u8,
-    slot: u16,
+    next: Arbiter,
     e: Submission,
     f: Submission,
-) -> Taken
-    ensures { λ r. ⌜ r ≡ takenBoth commands free id slot e f ⌝ }
+) -> Started
+    requires { ⌜ (id < 16) × Sound (now state) × RingOk (sqAt (held (now state)) id .ring) ⌝ }
+    ensures { λ r. ⌜ Sound (now (state .exit)) × (let c = held (now (state .entry)) in (m : Memory) → e ≡ headEntry c m id
+        → f ≡ nextEntry c m id → outcome (ofStarted r) (held (now (state .exit))) m ≡ takePair c m id next) ⌝ }
 {
-    let TakenTwo::Tags(first, second, left) = bits::take_two(free) else {
-        return too_few();
+    let TakenTwo::Tags(first, second, left) = bits::take_two(free_of(state)) else {
+        return Started::Refused(13);
     };
     let t = first as u8;
     let u = second as u8;
-    let verdict = verdict_pair(e, f, in_use(commands, free, id, e.cid, f.cid));
-    Taken {
-        count: 2,
-        first: first as usize,
-        second: second as usize,
-        one: Command {
+    let verdict = verdict_pair(e, f, in_use(state, id, e.cid, f.cid));
+    let slot = pass(state, id as usize, 2);
+    put_command(
+        state,
+        first as usize,
+        Command {
             sq: id,
             cid: e.cid,
             verdict: verdict,
             first: 0,
             second: u + 1,
         },
-        other: Command {
+    );
+    put_command(
+        state,
+        second as usize,
+        Command {
             sq: id,
             cid: f.cid,
             verdict: verdict,
             first: t + 1,
             second: 0,
         },
-        left: left,
-        answer: Started::Pair {
-            sq: id,
-            first: t,
-            second: u,
-            slot: slot,
-            verdict: verdict,
-        },
-    }
-}
-
-// What stands at the head of queue id, in a slot of its ring, is taken.
-pub fn take(commands: [Command; 64], free: u64, id: u8, slot: u16, head: Head) -> Taken
-    ensures { λ r. ⌜ r ≡ takenOf commands free id slot head ⌝ }
-{
-    match head {
-        Head::One(e) => take_one(commands, free, id, slot, e),
-        Head::Pair(e, f) => take_pair(commands, free, id, slot, e, f),
+    );
+    leave(state, left, next);
+    Started::Pair {
+        sq: id,
+        first: t,
+        second: u,
+        slot: slot,
+        verdict: verdict,
     }
 }

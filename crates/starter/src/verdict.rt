@@ -2,9 +2,12 @@
 ghost use mathlib.Core.Path.{_≡_};
 ghost use mathlib.Core.Bool.{Bool, _||_};
 ghost use Rattle.controller.specs.Verdict.{inUse, verdictOne, verdictPair};
-use controller::Command;
-use controller::Controller;
+ghost use Rattle.store.specs.Held.{held};
 use entry::submission::Submission;
+use store::Controller;
+use store::WORDS;
+use store::command_at;
+use store::free_of;
 
 // The opcodes of a pair.
 const COMPARE: u8 = 5;
@@ -12,13 +15,14 @@ const COMPARE: u8 = 5;
 const WRITE: u8 = 1;
 
 // Whether one of two CIDs is in use by an outstanding command of the queue. Only the tags that are not free are looked at.
-pub fn in_use(ks: [Command; 64], free: u64, sq: u8, a: u16, b: u16) -> bool
-    ensures { λ r. ⌜ r ≡ inUse ks free sq a || inUse ks free sq b ⌝ }
+pub fn in_use(state: &[u64; WORDS], sq: u8, a: u16, b: u16) -> bool
+    ensures { λ r. ⌜ (let c = held (now (state .entry)) in
+        r ≡ inUse (c .commands) (c .free) sq a || inUse (c .commands) (c .free) sq b) ⌝ }
 {
-    let mut left = u64::MAX - free;
+    let mut left = u64::MAX - free_of(state);
     while left != 0 {
         let t = u64::trailing_zeros(left);
-        let k = ks[t as usize];
+        let k = command_at(state, t as usize);
         if (k.sq == sq) & ((k.cid == a) | (k.cid == b)) {
             return true;
         }

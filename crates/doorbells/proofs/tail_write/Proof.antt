@@ -1,50 +1,84 @@
 -- `tail_write` meets its contract. Assumes nothing.
-use mathlib.Core.Path.{refl, sym, _∙_}
+use mathlib.Core.List.{[]}
+use mathlib.Core.Path.{sym, _∙_}
 use native.Mathlib.Omega.{arith}
 use borrow.Author.Needs.{needs}
-use Rattle.controller.proofs.Made.{TakesTail, takes-tail}
-use Rattle.controller.proofs.Validity.{valid}
-use Rattle.doorbells.proofs.Writes.{tail-refused, tail-written}
+use Rattle.rules.proofs.Tests.{not-no}
+use Rattle.controller.specs.Valid.{RingOk}
+use Rattle.store.specs.Held.{held}
+use Rattle.doorbells.proofs.Writes.{tail-low, tail-1, tail-9, tail-11, tail-10, tail-0, sq-ok}
 use Rattle.doorbells.proofs.tail_write.Statement.{statement}
 use Rattle.doorbells.proofs.tail_write.Tie as tie
 
--- past the test, the queue exists and its ring is in order
-known : (c : tie.Then1) → (let a = c .before .before .before .before .before .before .args in TakesTail (a .c) (a .id))
-known c = takes-tail _ _ (sym (c .before .tail-refusal .ensures _ refl) ∙ c .if1 .taken)
+-- the test of the id, from the queue that was read; and the function's entry
+abbrev low : tie.After-sq-at → tie.Else1
+low c = c .before .before
 
-mul-write-tail : tie.Need-mul-write-tail
-mul-write-tail c = omega (arith, known c .id-low)
-
-array-copy-out-write-tail : tie.Need-array-copy-out-write-tail
-array-copy-out-write-tail c = omega (arith, known c .id-low)
-
-write-tail-requires : tie.Need-write-tail-requires
-write-tail-requires c κs =
-    let b = c .before in valid (b .before .before .before .before .before .before .pre) .sq-ok _ (known b .here)
-
-mul-sqs : tie.Need-mul-sqs
-mul-sqs c = omega (arith, known (c .before .before .before) .id-low)
-
-array-set-from-sqs : tie.Need-array-set-from-sqs
-array-set-from-sqs c = omega (arith, known (c .before .before .before) .id-low)
+abbrev start : tie.After-sq-at → tie.Start
+start c = low c .before
 
 returns : tie.Need-returns
-returns c =
-    let b = c .before .before .before in
-    λ m. rw (c .before .write-tail .ensures) (tail-written _ _ _ m (b .before .tail-refusal .ensures _ refl) (b .if1 .taken))
+returns c = (c .before .pre .sound, λ m. tail-1 _ _ _ m (c .if1 .taken))
 
 returns-2 : tie.Need-returns-2
-returns-2 c = λ m. tail-refused _ _ _ m (c .before .tail-refusal .ensures _ refl) (c .if1 .left)
+returns-2 c =
+    let q = c .before .before in
+    (start q .pre .sound, λ m. tail-9 (held (start q .args .state .now)) _ _ m (low q .if1 .left) (q .sq-at .ensures) (c .if2 .taken))
+
+returns-3 : tie.Need-returns-3
+returns-3 c =
+    let q = c .before .before .before in (
+      start q .pre .sound,
+      λ m. tail-11 (held (start q .args .state .now)) _ _ m (low q .if1 .left) (q .sq-at .ensures) (c .before .if2 .left) (c .if3 .taken),
+    )
+
+-- past the tests the ring is in order
+ring-ok : (c : tie.Else3) → RingOk (c .before .before .before .sq-at .result .ring)
+ring-ok c =
+    let q = c .before .before .before in
+    let s = start q in
+    sq-ok (held (s .args .state .now)) _ (s .args .value) [] (low q .if1 .left) (q .sq-at .ensures) (c .before .if2 .left)
+    (s .pre .reachable)
+
+returns-4 : tie.Need-returns-4
+returns-4 c =
+    let t = c .before .before .before in
+    let e = t .before in
+    let q = e .before .before .before in
+    let p = c .mark-sq .ensures in (
+      p .sound,
+      λ m. tail-10 (held (start q .args .state .now)) _ _ m (low q .if1 .left) (q .sq-at .ensures) (e .before .if2 .left) (e .if3 .left)
+          (t .takes-tail .ensures) (c .before .before .if4 .taken) (p .is),
+    )
+
+cast-put-sq-tail : tie.Need-cast-put-sq-tail
+cast-put-sq-tail c =
+    let t = c .before .before in
+    let l = tail-low _ (ring-ok (t .before)) _ (sym (t .takes-tail .ensures) ∙ not-no _ (c .before .if4 .left)) in
+    record { fits = omega arith }
+
+returns-5 : tie.Need-returns-5
+returns-5 c =
+    let t = c .before .before .before in
+    let e = t .before in
+    let q = e .before .before .before in
+    let p = c .put-sq-tail .ensures in (
+      p .sound,
+      λ m. tail-0 (held (start q .args .state .now)) _ _ m (low q .if1 .left) (q .sq-at .ensures) (e .before .if2 .left) (e .if3 .left)
+          (t .takes-tail .ensures) (c .before .before .if4 .left) (p .is),
+    )
 
 pub tail-write-spec : {M : Type 1} → statement M
 tail-write-spec =
     tie.close
     (tie.spec
-    (λ c κs. search needs)
-    mul-write-tail
-    array-copy-out-write-tail
-    write-tail-requires
-    mul-sqs
-    array-set-from-sqs
     returns
-    returns-2)
+    (λ c κs. search needs)
+    returns-2
+    returns-3
+    (λ c κs. ring-ok c)
+    (λ c κs. search needs)
+    returns-4
+    cast-put-sq-tail
+    (λ c κs. search needs)
+    returns-5)

@@ -1,18 +1,15 @@
--- `takes_tail` meets its contract: on a ring in order the plain check refuses the value alone. Assumes nothing.
-use mathlib.Core.Path.{ap, _∙_}
-use Prim.Native.Nat.{ℕ}
-use lib.Dec.{eqb}
+-- `takes_tail` meets its contract. Assumes nothing.
+use Prim.Native.Nat.{_≤_, _<_}
 use borrow.Author.Needs.{needs}
-use Rattle.doorbells.proofs.Writes.{check-is}
 use Rattle.doorbells.proofs.takes_tail.Statement.{statement}
 use Rattle.doorbells.proofs.takes_tail.Tie as tie
 
-returns : tie.Need-returns
-returns c =
-    let s = c .before .before .before .before in
-    ap (λ (n : ℕ). eqb n 0) (c .check-tail .ensures) ∙ check-is (s .args .r) (s .pre) _
+valid-tail-requires : tie.Need-valid-tail-requires
+valid-tail-requires c κs =
+    let k = c .before .before .before .pre in
+    (k .head-below, k .tail-below, k .high)
 
 pub takes-tail-spec : {M : Type 1} → statement M
 takes-tail-spec =
     tie.close
-    (tie.spec (λ c. search needs) (λ c. search needs) (λ c. search needs) (λ c κs. search needs) returns)
+    (tie.spec (λ c. search needs) (λ c. search needs) (λ c. search needs) valid-tail-requires (λ c. search needs))

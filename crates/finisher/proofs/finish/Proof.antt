@@ -1,137 +1,144 @@
 -- `finish` meets its contract. Assumes nothing.
-use mathlib.Core.Logic.{⊎-elim}
-use mathlib.Core.Path.{_≡_, refl, _∙_}
+use mathlib.Core.Path.{_≡_, refl}
 use native.Mathlib.Omega.{arith}
-use lib.ListN.{length, set}
+use lib.ListN.{length}
 use borrow.Author.Needs.{needs}
-use Rattle.controller.specs.Finishing.{unlinked}
-use Rattle.controller.specs.State.{commandAt}
+use Rattle.controller.specs.Finishing.{finishRefusal}
 use Rattle.controller.proofs.Validity.{valid}
-use Rattle.finisher.proofs.Finishes.{stays, unlinks, Postable, refused-call, past-call, postable, finish-refused, finish-done}
+use Rattle.store.specs.Held.{held}
+use Rattle.finisher.proofs.Finishes.{Postable, refused-call, past-call, postable, finish-refused, finish-done}
+use Rattle.finisher.proofs.Finishes.{on-posting, cq-below, second-below, ring-ok, phase-below, within, status-below}
 use Rattle.finisher.proofs.finish.Statement.{statement}
 use Rattle.finisher.proofs.finish.Tie as tie
 
--- the function's entry, from the first call
+-- ---- the places: the function's entry, the first test, what was read
+
 abbrev start : tie.After-call-refusal → tie.Start
-start c = c .before .before .before .before .before .before
+start c = c .before .before .before
 
--- what is known past the first test
-known : (c : tie.Then1) → (let a = start (c .before) .args in Postable (a .c) (length (a .memory .now)) (a .tag) (a .status))
-known c = postable _ _ _ _ (c .before .call-refusal .ensures _ refl refl refl) (c .if1 .taken) (valid (start (c .before) .pre))
+abbrev queue-of : tie.After-cq-at → tie.After-sq-at
+queue-of c = c .before .before .before
 
-mul-k : tie.Need-mul-k
-mul-k c = record { fits = omega (arith, known c .tag-low) }
+abbrev command-of : tie.After-cq-at → tie.After-command-at
+command-of c = queue-of c .before .before .before
 
-array-copy-out-k : tie.Need-array-copy-out-k
-array-copy-out-k c = known c .tag-low
+abbrev tested : tie.After-cq-at → tie.Else1
+tested c = command-of c .before .before
 
-cast-s : tie.Need-cast-s
-cast-s c = record { fits = omega (arith, known (c .before) .sq-low) }
+-- from what follows the posting on
+abbrev read : tie.After-post → tie.After-cq-at
+read c = c .before .before .before .before .before
 
-mul-x : tie.Need-mul-x
-mul-x c = record { fits = omega (arith, known (c .before) .sq-low) }
+-- ---- what is known there
 
-array-copy-out-x : tie.Need-array-copy-out-x
-array-copy-out-x c = known (c .before) .sq-low
+-- past the first test
+known : (c : tie.Else1)
+    → (let a = start (c .before) .args in Postable (held (a .state .now)) (length (a .memory .now)) (a .tag) (a .status))
+known c = postable _ _ _ _ (c .before .call-refusal .ensures) (c .if1 .left) (valid (start (c .before) .pre .reachable))
 
-cast-i : tie.Need-cast-i
-cast-i c = record { fits = omega (arith, known (c .before .before) .cq-low) }
+-- the refusal number past the first part of the table
+found : (c : tie.After-posting-refusal)
+    → (let a = start (tested (c .before) .before) .args in
+    c .posting-refusal .result ≡ finishRefusal (held (a .state .now)) (length (a .memory .now)) (a .tag) (a .status))
+found c =
+    let y = c .before in
+    let t = tested y in
+    let a = start (t .before) .args in
+    past-call _ _ _ _ (t .before .call-refusal .ensures) (t .if1 .left)
+    (on-posting (held (a .state .now)) (a .tag) (command-of y .command-at .ensures) (queue-of y .sq-at .ensures) (y .cq-at .ensures)
+    (c .posting-refusal .ensures))
 
-mul-y : tie.Need-mul-y
-mul-y c = record { fits = omega (arith, known (c .before .before) .cq-low) }
+-- ---- the needs
 
-array-copy-out-y : tie.Need-array-copy-out-y
-array-copy-out-y c = known (c .before .before) .cq-low
+returns : tie.Need-returns
+returns c =
+    let r = c .before in
+    (start r .pre .sound, finish-refused _ _ _ _ _ (refused-call _ _ _ _ (r .call-refusal .ensures) (c .if1 .taken)) (c .if1 .taken))
 
--- the first test, from the second refusal and from what follows the posting
-abbrev then : tie.After-posting-refusal-arg → tie.Then1
-then c = c .before .before .before .before
+command-at-requires : tie.Need-command-at-requires
+command-at-requires c κs = known (c .before) .tag-low
 
-abbrev posted-at : tie.After-slice-known2 → tie.Then1
-posted-at c = then (c .before .before .before .before .before .before .before)
+sq-at-requires : tie.Need-sq-at-requires
+sq-at-requires c κs =
+    let k = c .before .before in
+    let p = known (k .before .before) in
+    rw (k .command-at .ensures) (p .sq-low)
+
+cq-at-requires : tie.Need-cq-at-requires
+cq-at-requires c κs =
+    let x = c .before .before in
+    let k = x .before .before .before in
+    cq-below _ _ (k .command-at .ensures) (x .sq-at .ensures) refl _ _ (known (k .before .before))
 
 posting-refusal-requires : tie.Need-posting-refusal-requires
-posting-refusal-requires c κs = known (then c) .ring
+posting-refusal-requires c κs =
+    ring-ok _ _ (command-of c .command-at .ensures) (queue-of c .sq-at .ensures) (c .cq-at .ensures) _ _ (known (tested c))
+
+returns-2 : tie.Need-returns-2
+returns-2 c =
+    let r = c .before in
+    (start (tested (r .before) .before) .pre .sound, finish-refused _ _ _ _ _ (found r) (c .if2 .taken))
 
 post-requires : tie.Need-post-requires
 post-requires c κs =
     let s = c .before in
-    let k = known (then (s .before .before .before)) in
-    rw (s .status-of .ensures) (k .ring, k .within, k .status-low)
+    let y = s .before .before .before in
+    let e = command-of y .command-at .ensures in
+    let f = queue-of y .sq-at .ensures in
+    let g = y .cq-at .ensures in
+    let p = known (tested y) in
+    (ring-ok _ _ e f g _ _ p, within _ _ e f g _ _ p, status-below _ _ e f g _ _ p (s .status-of .ensures))
 
-with-posted-requires : tie.Need-with-posted-requires
-with-posted-requires c κs = let k = known (posted-at c) in (k .ring, k .phase-low)
+move-on-requires : tie.Need-move-on-requires
+move-on-requires c κs =
+    let y = read (c .before .before .before) in
+    let e = command-of y .command-at .ensures in
+    let f = queue-of y .sq-at .ensures in
+    let g = y .cq-at .ensures in
+    let p = known (tested y) in
+    (cq-below _ _ e f g _ _ p, start (tested y .before) .pre .sound, ring-ok _ _ e f g _ _ p, phase-below _ _ e f g _ _ p, g)
 
-mul-cqs : tie.Need-mul-cqs
-mul-cqs c = record { fits = omega (arith, known (posted-at (c .before)) .cq-low) }
-
-array-set-from-cqs : tie.Need-array-set-from-cqs
-array-set-from-cqs c = known (posted-at (c .before)) .cq-low
-
-half-at-requires : tie.Need-half-at-requires
-half-at-requires c κs = let k = known (posted-at (c .before)) in (k .tag-low, k .second-low)
-
--- where the arms meet, the store at the half's tag unlinks the commands
-unlinked-at : (c : tie.Joined3)
-    → (let s = c .before .before .before .before .before .before .before .before in
-    let a = start (then (s .before .before .before) .before) .args in
-    set (a .c .commands) (c .before .before .half-at .result) (c .if3 .commands)
-    ≡ unlinked (a .c .commands) (commandAt (a .c) (a .tag) .second) (s .status-of .result))
-unlinked-at c =
-    let e = c .before .before .half-at .ensures .0 in
-    ⊎-elim (λ w. stays _ _ _ _ (w .0 .taken) (w .1)) (λ w. unlinks _ _ _ _ _ e (w .0 .left) (w .2 ∙ w .1 .ensures)) (c .if3 .came)
-
-returns : tie.Need-returns
-returns c =
-    let w = c .before .before .before .before in
-    let p = w .before .before .before in
-    let s = p .before .before in
-    let q = s .before .before in
-    let t = then (q .before) in
-    let a = start (t .before) .args in
-    finish-done (a .c) (a .memory .now) (a .tag) (a .status) _
-    (past-call _ _ _ _ (t .before .call-refusal .ensures _ refl refl refl) (t .if1 .taken) (q .posting-refusal .ensures))
-    (s .before .if2 .taken) (s .status-of .ensures) (p .post .ensures) (w .with-posted .ensures) (unlinked-at (c .before))
-    (c .give-back .ensures)
-
-returns-2 : tie.Need-returns-2
-returns-2 c =
-    let q = c .before in
-    let t = then (q .before) in
-    finish-refused _ _ _ _ _
-    (past-call _ _ _ _ (t .before .call-refusal .ensures _ refl refl refl) (t .if1 .taken) (q .posting-refusal .ensures)) (c .if2 .left)
+unlink-requires : tie.Need-unlink-requires
+unlink-requires c κs =
+    let m = c .before in
+    let y = read (m .before .before .before .before) in (
+      second-below _ _ (command-of y .command-at .ensures) (queue-of y .sq-at .ensures) (y .cq-at .ensures) _ _ (known (tested y)),
+      m .move-on .ensures .sound,
+    )
 
 returns-3 : tie.Need-returns-3
 returns-3 c =
-    finish-refused _ _ _ _ _ (refused-call _ _ _ _ (c .before .call-refusal .ensures _ refl refl refl) (c .if1 .left)) (c .if1 .left)
+    let u = c .before .before in
+    let v = u .before .before in
+    let w = v .before .before .before .before in
+    let s = w .before .before in
+    let r = s .before .before in
+    let y = r .before in
+    let a = start (tested y .before) .args in
+    let g = c .give-back .ensures in (
+      g .sound,
+      finish-done (held (a .state .now)) (a .tag) (command-of y .command-at .ensures) (queue-of y .sq-at .ensures) (y .cq-at .ensures)
+          (a .memory .now) (a .status) (a .result) (found r) (s .before .if2 .left) _ _ _ (s .status-of .ensures) (w .post .ensures)
+          (v .move-on .ensures .is) (u .unlink .ensures .is) (g .is),
+    )
 
 pub finish-spec : {M : Type 1} → statement M
 finish-spec =
     tie.close
     (tie.spec
     (λ c κs. search needs)
-    mul-k
-    array-copy-out-k
-    cast-s
-    mul-x
-    array-copy-out-x
-    cast-i
-    mul-y
-    array-copy-out-y
+    returns
+    command-at-requires
+    (λ c. search needs)
+    sq-at-requires
+    (λ c. search needs)
+    cq-at-requires
     posting-refusal-requires
+    returns-2
     (λ c κs. search needs)
     post-requires
-    with-posted-requires
-    mul-cqs
-    array-set-from-cqs
-    half-at-requires
-    (λ c. search needs)
-    (λ c. search needs)
+    move-on-requires
+    unlink-requires
     (λ c κs. search needs)
     (λ c. search needs)
-    (λ c. search needs)
-    (λ c κs. search needs)
-    (λ c. search needs)
-    returns
-    returns-2
     returns-3)

@@ -1,21 +1,24 @@
--- `rounds::release`: each head write leaves a controller that calls lead to. Assumes nothing.
-use borrow.Author.Needs.{needs}
+-- `rounds::release`: each head write leaves words that calls lead to. Assumes nothing.
 use Prim.Native.Nat.{_≤_, _-_}
 use mathlib.Core.List.{[]}
-use Rattle.controller.specs.Calls.{Reachable, headWrite}
-use Rattle.controller.proofs.Reaches.{by-call}
+use borrow.Author.Needs.{needs}
+use Rattle.controller.specs.Calls.{headWrite}
+use Rattle.store.specs.Held.{Reached}
+use Rattle.store.proofs.Fresh.{reached-call}
 use Rattle.rounds.proofs.release.Statement.{statement}
 use Rattle.rounds.proofs.release.Tie as tie
 
 abbrev Inv-loop : tie.InvT-loop
-Inv-loop run busy n posted first c₀ digest₀ i₀ c digest i = Reachable c × (i ≤ busy)
+Inv-loop state₀ run busy n posted first digest₀ i₀ state digest i = Reached state × (i ≤ busy)
 
 abbrev μ-loop : tie.MeasureT-loop
-μ-loop run busy n posted first c₀ digest₀ i₀ c digest i = busy - i
+μ-loop state₀ run busy n posted first digest₀ i₀ state digest i = busy - i
 
 loop-again : tie.Need-loop-again Inv-loop μ-loop
 loop-again c =
-    (by-call [] (headWrite _ _) (c .before .before .before .before .loop .inv .0) (c .before .before .head-write .ensures []), search needs)
+    let w = c .before in
+    let e = w .head-write .ensures in
+    (reached-call [] (headWrite _ _) (w .before .before .before .loop .inv .0) (e .0) (e .1 []), search needs)
 
 pub release-spec : {M : Type 1} → statement M
 release-spec =

@@ -1,21 +1,24 @@
--- `rounds::submit`: each tail write leaves a controller that calls lead to. Assumes nothing.
-use borrow.Author.Needs.{needs}
+-- `rounds::submit`: each tail write leaves words that calls lead to. Assumes nothing.
 use Prim.Native.Nat.{_≤_, _-_}
 use mathlib.Core.List.{[]}
-use Rattle.controller.specs.Calls.{Reachable, tailWrite}
-use Rattle.controller.proofs.Reaches.{by-call}
+use borrow.Author.Needs.{needs}
+use Rattle.controller.specs.Calls.{tailWrite}
+use Rattle.store.specs.Held.{Reached}
+use Rattle.store.proofs.Fresh.{reached-call}
 use Rattle.rounds.proofs.submit.Statement.{statement}
 use Rattle.rounds.proofs.submit.Tie as tie
 
 abbrev Inv-loop : tie.InvT-loop
-Inv-loop run busy n tail first c₀ digest₀ i₀ c digest i = Reachable c × (i ≤ busy)
+Inv-loop state₀ run busy n tail first digest₀ i₀ state digest i = Reached state × (i ≤ busy)
 
 abbrev μ-loop : tie.MeasureT-loop
-μ-loop run busy n tail first c₀ digest₀ i₀ c digest i = busy - i
+μ-loop state₀ run busy n tail first digest₀ i₀ state digest i = busy - i
 
 loop-again : tie.Need-loop-again Inv-loop μ-loop
 loop-again c =
-    (by-call [] (tailWrite _ _) (c .before .before .before .before .loop .inv .0) (c .before .before .tail-write .ensures []), search needs)
+    let w = c .before in
+    let e = w .tail-write .ensures in
+    (reached-call [] (tailWrite _ _) (w .before .before .before .loop .inv .0) (e .0) (e .1 []), search needs)
 
 pub submit-spec : {M : Type 1} → statement M
 submit-spec =

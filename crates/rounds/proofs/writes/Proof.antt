@@ -1,21 +1,24 @@
--- `rounds::writes`: each tail write leaves a controller that calls lead to. Assumes nothing.
-use borrow.Author.Needs.{needs}
+-- `rounds::writes`: each tail write leaves words that calls lead to. Assumes nothing.
 use Prim.Native.Nat.{_≤_, _-_}
 use mathlib.Core.List.{[]}
-use Rattle.controller.specs.Calls.{Reachable, tailWrite}
-use Rattle.controller.proofs.Reaches.{by-call}
+use borrow.Author.Needs.{needs}
+use Rattle.controller.specs.Calls.{tailWrite}
+use Rattle.store.specs.Held.{Reached}
+use Rattle.store.proofs.Fresh.{reached-call}
 use Rattle.rounds.proofs.writes.Statement.{statement}
 use Rattle.rounds.proofs.writes.Tie as tie
 
 abbrev Inv-loop : tie.InvT-loop
-Inv-loop run n c₀ digest₀ i₀ c digest i = Reachable c × (i ≤ n)
+Inv-loop state₀ run n digest₀ i₀ state digest i = Reached state × (i ≤ n)
 
 abbrev μ-loop : tie.MeasureT-loop
-μ-loop run n c₀ digest₀ i₀ c digest i = n - i
+μ-loop state₀ run n digest₀ i₀ state digest i = n - i
 
 loop-again : tie.Need-loop-again Inv-loop μ-loop
 loop-again c =
-    (by-call [] (tailWrite _ _) (c .before .before .before .before .loop .inv .0) (c .before .before .tail-write .ensures []), search needs)
+    let w = c .before in
+    let e = w .tail-write .ensures in
+    (reached-call [] (tailWrite _ _) (w .before .before .before .loop .inv .0) (e .0) (e .1 []), search needs)
 
 pub writes-spec : {M : Type 1} → statement M
 writes-spec =

@@ -1,143 +1,166 @@
 -- `start` meets its contract. Assumes nothing.
 use Prim.Native.Nat.{_<_}
-use mathlib.Core.Bool.{false, _||_}
-use mathlib.Core.Path.{_≡_, refl, sym, ap, _∙_}
+use mathlib.Core.Bool.{false}
+use mathlib.Core.Path.{_≡_, sym, ap, _∙_}
 use native.Mathlib.Omega.{arith}
 use lib.ListN.{length}
 use borrow.Author.Needs.{needs}
 use Rattle.arbiter.specs.Arbiter.{choice}
+use Rattle.arbiter.specs.declared.Chosen.the-variants.{Queue}
+use Rattle.controller.specs.Controller.{Controller}
 use Rattle.controller.specs.State.{sqAt}
 use Rattle.controller.specs.Rings.{outside}
-use Rattle.controller.specs.Starting.{candidates}
+use Rattle.controller.specs.Starting.{candidates, takeFrom, start}
+use Rattle.controller.specs.Valid.{RingOk}
 use Rattle.controller.proofs.Validity.{valid}
-use Rattle.starter.specs.Taking.{Inside}
-use Rattle.starter.proofs.Takings.{Bounded, bounded, outside-found, candidates-found, start-outside, start-chosen, start-too-few}
-use Rattle.starter.proofs.Takings.{start-taken, ready}
+use Rattle.store.specs.Held.{held, Sound}
+use Rattle.starter.specs.Inside.{Inside}
+use Rattle.starter.proofs.Takings.{start-outside, start-chosen, from-one, from-pair, ready}
 use Rattle.starter.proofs.start.Statement.{statement}
 use Rattle.starter.proofs.start.Tie as tie
 
--- ---- the places: past the walks over the rings, past the choice, past the queue's name, past what is taken
+-- ---- the places: past the walk over the rings, past the choice, past the queue's name
 
-abbrev entry : tie.After-cqs-outside → tie.Start
-entry c = c .before .before .before .before .before
+abbrev entry : tie.After-rings-outside → tie.Start
+entry c = c .before .before .before
 
-abbrev rings : tie.After-choose → tie.After-cqs-outside
-rings c = c .before .before .before .before
+abbrev rings : tie.After-choose → tie.After-rings-outside
+rings c = c .before .before .before .before .before .before
 
 abbrev chosen : tie.After-known-told → tie.After-choose
 chosen c = c .before .before .before
 
-abbrev named : tie.After-take → tie.After-known-told
-named c = c .before .before .before .before
+abbrev begun : tie.After-choose → tie.Start
+begun c = entry (rings c)
 
 -- ---- what is known there
 
--- what the survey and the walk over the completion queues say
-outside-is : (c : tie.After-cqs-outside)
-    → let s = entry c in
-    (c .before .survey-of .result .outside || c .cqs-outside .result) ≡ outside (s .args .c) (length (s .args .memory .now))
-outside-is c = outside-found _ _ (c .before .survey-of .ensures _ refl) (c .cqs-outside .ensures)
-
-inside : (c : tie.After-choose) → let s = entry (rings c) in outside (s .args .c) (length (s .args .memory .now)) ≡ false
-inside c = sym (outside-is (rings c)) ∙ c .before .before .if1 .left
+inside : (c : tie.After-choose) → let a = begun c .args in outside (held (a .state .now)) (length (a .memory .now)) ≡ false
+inside c = sym (rings c .rings-outside .ensures) ∙ c .before .before .before .before .before .if1 .left
 
 -- the queue that the arbiter names
-choice-is : (c : tie.After-choose) → let s = entry (rings c) in choice (s .args .c .arbiter) (candidates (s .args .c)) ≡ c .choose .result
-choice-is c = sym (c .choose .ensures ∙ ap (choice _) (candidates-found _ _ (rings c .before .survey-of .ensures _ refl)))
+choice-is : (c : tie.After-choose)
+    → let d = held (begun c .args .state .now) in choice (d .arbiter) (candidates d) ≡ c .choose .result
+choice-is c =
+    let a = c .before in
+    sym
+    (c .choose .ensures ∙ ap (choice _) (a .before .before .candidates-of .ensures)
+    ∙ ap (λ x. choice x (candidates (held (begun c .args .state .now)))) (a .arbiter-of .ensures))
 
 -- it exists, and its ring is sound and lies in the memory
 known : (c : tie.After-known-told)
-    → let s = entry (rings (chosen c)) in
-    (c .before .id .given .0 .0 < 16) × Inside (length (s .args .memory .now)) (sqAt (s .args .c) (c .before .id .given .0 .0) .ring)
+    → let a = begun (chosen c) .args in
+    (c .before .id .given .0 .0 < 16) × Inside (length (a .memory .now)) (sqAt (held (a .state .now)) (c .before .id .given .0 .0) .ring)
 known c =
-    ready _ _ (valid (entry (rings (chosen c)) .pre)) (inside (chosen c)) (choice-is (chosen c) ∙ c .before .id .given .1)
+    let h = chosen c in
+    let s = begun h in
+    ready (held (s .args .state .now)) _ (valid (s .pre .reachable)) (inside h) (choice-is h ∙ c .before .id .given .1)
 
--- how much is taken, and with which tags
-bounds : (c : tie.After-take) → Bounded (c .take .result)
-bounds c = bounded _ _ _ _ (valid (entry (rings (chosen (named c))) .pre) .free-64) _ (c .take .ensures)
+-- what is taken from it is what the start takes
+taken : (c : tie.After-known-told)
+    → let a = begun (chosen c) .args in
+    let q = c .before .id .given .0 in
+    takeFrom (held (a .state .now)) (a .memory .now) (Queue (q .0) (q .1 .0)) ≡ start (held (a .state .now)) (a .memory .now)
+taken c =
+    let h = chosen c in
+    start-chosen (held (begun h .args .state .now)) _ (inside h) (choice-is h ∙ c .before .id .given .1)
+
+-- past the queue's state, and past the question whether a pair stands at its head
+abbrev given : tie.After-sq-at → Controller
+given c = held (begun (chosen (c .before .before)) .args .state .now)
+
+abbrev queue : tie.After-is-pair → tie.After-sq-at
+queue c = c .before .before .before
+
+inside-ring : (c : tie.After-sq-at) → Inside (length (begun (chosen (c .before .before)) .args .memory .now)) (c .sq-at .result .ring)
+inside-ring c = rw (c .sq-at .ensures) (known (c .before .before) .1)
+
+takeable : (c : tie.After-sq-at)
+    → let n = c .before .before in
+    let id = n .before .id .given .0 .0 in
+    (id < 16) × Sound (begun (chosen n) .args .state .now) × RingOk (sqAt (given c) id .ring)
+takeable c = let n = c .before .before in (known n .0, begun (chosen n) .pre .sound, known n .1 .ok)
 
 -- ---- the needs
 
 returns : tie.Need-returns
-returns c = c .refused .ensures _ ∙ start-outside _ _ (sym (outside-is (c .before .before .before)) ∙ c .before .if1 .taken)
+returns c =
+    let o = c .before in
+    let s = entry o in
+    (s .pre .sound, start-outside (held (s .args .state .now)) _ (sym (o .rings-outside .ensures) ∙ c .if1 .taken))
 
 returns-2 : tie.Need-returns-2
 returns-2 c =
-    let h = c .before .before .before in
-    c .refused2 .ensures _ ∙ start-chosen _ _ (inside h) (choice-is h ∙ c .before .enum-told .given .1)
+    let h = c .before .before in
+    let s = begun h in
+    (s .pre .sound, start-chosen (held (s .args .state .now)) _ (inside h) (choice-is h ∙ c .enum-told .given .1))
 
-array-copy-out-q : tie.Need-array-copy-out-q
-array-copy-out-q c = known c .0
+candidates-of-requires : tie.Need-candidates-of-requires
+candidates-of-requires c κs = entry (c .before .before) .pre
 
 cast-sq : tie.Need-cast-sq
-cast-sq c = omega (arith, known (c .before) .0)
+cast-sq c = omega (arith, known c .0)
 
-head-of-requires : tie.Need-head-of-requires
-head-of-requires c κs = known (c .before .before) .1
+sq-at-requires : tie.Need-sq-at-requires
+sq-at-requires c κs = known (c .before) .0
+
+first-entry-requires : tie.Need-first-entry-requires
+first-entry-requires c κs = inside-ring (c .before)
+
+is-pair-requires : tie.Need-is-pair-requires
+is-pair-requires c κs = inside-ring (c .before .before)
+
+second-entry-requires : tie.Need-second-entry-requires
+second-entry-requires c κs = inside-ring (queue (c .before .before))
+
+take-pair-requires : tie.Need-take-pair-requires
+take-pair-requires c κs = takeable (queue (c .before .before .before))
 
 returns-3 : tie.Need-returns-3
 returns-3 c =
-    let t = c .before .before .before in
-    let k = named t in
-    let h = chosen k in
-    c .refused3 .ensures _
-    ∙ start-too-few (entry (rings h) .args .c) _ _ _ (t .before .head-of .ensures) (t .take .ensures) (c .before .if2 .taken)
-    ∙ start-chosen _ _ (inside h) (choice-is h ∙ k .before .id .given .1)
+    let s = c .before in
+    let p = s .before .before .before in
+    let q = queue p in
+    let t = c .take-pair .ensures in (
+      t .0,
+      from-pair (given q) _ _ _ (q .sq-at .ensures) (p .is-pair .ensures) (p .before .first-entry .ensures) (s .before .before .if2 .taken)
+          (s .second-entry .ensures) (t .1 _)
+          ∙ taken (q .before .before),
+    )
 
-with-passed-requires : tie.Need-with-passed-requires
-with-passed-requires c κs = let t = c .before .before in (known (named t) .1 .ok, bounds t .few)
-
-array-set-from-sqs : tie.Need-array-set-from-sqs
-array-set-from-sqs c = known (named (c .before .before .before)) .0
-
-mul-commands : tie.Need-mul-commands
-mul-commands c = omega (arith, bounds (c .before .before .before .before) .first)
-
-array-set-from-commands : tie.Need-array-set-from-commands
-array-set-from-commands c = bounds (c .before .before .before .before) .first
-
-mul-commands-2 : tie.Need-mul-commands-2
-mul-commands-2 c = omega (arith, bounds (c .before .before .before .before .before) .second)
-
-array-set-from-commands-2 : tie.Need-array-set-from-commands-2
-array-set-from-commands-2 c = bounds (c .before .before .before .before .before) .second
+take-one-requires : tie.Need-take-one-requires
+take-one-requires c κs = takeable (queue (c .before .before))
 
 returns-4 : tie.Need-returns-4
 returns-4 c =
-    let p = c .before .before in
-    let t = p .before .before .before in
-    let k = named t in
-    let h = chosen k in
-    start-taken (entry (rings h) .args .c) _ _ _ (t .before .head-of .ensures) (t .take .ensures) (p .before .if2 .left)
-    (p .with-passed .ensures)
-    ∙ start-chosen _ _ (inside h) (choice-is h ∙ k .before .id .given .1)
+    let i = c .before .before in
+    let p = i .before in
+    let q = queue p in
+    let t = c .take-one .ensures in (
+      t .0,
+      from-one (given q) _ _ _ (q .sq-at .ensures) (p .is-pair .ensures) (p .before .first-entry .ensures) (i .if2 .left) (t .1 _)
+          ∙ taken (q .before .before),
+    )
 
 pub start-spec : {M : Type 1} → statement M
 start-spec =
     tie.close
     (tie.spec
     (λ c κs. search needs)
-    (λ c κs. search needs)
-    (λ c κs. search needs)
     returns
+    candidates-of-requires
+    (λ c κs. search needs)
     (λ c κs. search needs)
     (λ c. search needs)
     (λ c. search needs)
-    (λ c κs. search needs)
     returns-2
-    (λ c. search needs)
-    (λ c. search needs)
-    array-copy-out-q
     cast-sq
-    head-of-requires
-    (λ c κs. search needs)
-    (λ c κs. search needs)
-    returns-3
-    with-passed-requires
     (λ c. search needs)
-    array-set-from-sqs
-    mul-commands
-    array-set-from-commands
-    mul-commands-2
-    array-set-from-commands-2
+    sq-at-requires
+    first-entry-requires
+    is-pair-requires
+    second-entry-requires
+    take-pair-requires
+    returns-3
+    take-one-requires
     returns-4)

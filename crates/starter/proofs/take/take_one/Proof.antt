@@ -1,39 +1,68 @@
 -- `take_one` meets its contract: the lowest free tag, or too few. Assumes nothing.
-use mathlib.Core.Path.{sym, _∙_}
+use Prim.Native.Nat.{_<_}
+use mathlib.Core.Path.{_≡_, sym, ap, _∙_}
 use native.Mathlib.Omega.{arith}
 use borrow.Author.Needs.{needs}
+use Rattle.bits.specs.Tags.{takenOne}
 use Rattle.bits.proofs.Tags.{one-taken}
-use Rattle.starter.proofs.Takings.{alone-none, alone-is}
+use Rattle.store.specs.Held.{held}
+use Rattle.starter.proofs.Takings.{one-refused, one-started}
 use Rattle.starter.proofs.take.take_one.Statement.{statement}
 use Rattle.starter.proofs.take.take_one.Tie as tie
 
-returns : tie.Need-returns
-returns c =
-    c .too-few .ensures ∙ alone-none _ _ _ _ _ (sym (c .before .before .before .take-one .ensures) ∙ c .before .enum-told .given .1)
+-- the function's entry, from the tag, and the tag, from where it is known
+abbrev entry : tie.After-take-one → tie.Start
+entry c = c .before .before .before
 
-cast-t14 : tie.Need-cast-t14
-cast-t14 c =
-    let t = c .before .before .before in
-    omega (arith, one-taken _ (search needs) (sym (t .before .before .take-one .ensures) ∙ t .tag .given .1) .low)
+abbrev tag : tie.After-known-told → tie.After-take-one
+tag c = c .before .before .before
+
+found : (c : tie.After-take-one) → takenOne (held (entry c .args .state .now) .free) ≡ c .take-one .result
+found c = sym (c .take-one .ensures ∙ ap takenOne (c .before .free-of .ensures))
+
+low : (c : tie.After-known-told) → c .before .tag .given .0 .0 < 64
+low c = one-taken _ (search needs) (sym (tag c .take-one .ensures) ∙ c .before .tag .given .1) .low
+
+none-free : tie.Need-returns
+none-free c =
+    let t = c .before .before in
+    (entry t .pre .1, λ m h. one-refused (held (entry t .args .state .now)) m _ _ (found t ∙ c .enum-told .given .1))
+
+cast-t : tie.Need-cast-t
+cast-t c = omega (arith, low c)
+
+put-command-requires : tie.Need-put-command-requires
+put-command-requires c κs = (low (c .before .before .before .before .before .before), c .before .pass .ensures .1 .sound)
 
 returns-2 : tie.Need-returns-2
 returns-2 c =
-    let t = c .before .before .before in
-    alone-is _ _ _ _ _ (sym (t .before .before .take-one .ensures) ∙ t .tag .given .1) (c .before .in-use .ensures)
-    (c .verdict-one .ensures)
+    let k = c .before .before in
+    let p = k .before .before in
+    let v = p .before .before in
+    let u = v .before in
+    let n = u .before .before in
+    let s = entry (tag n) in (
+      c .leave .ensures .sound,
+      λ m h.
+          one-started (held (s .args .state .now)) m _ _ h (found (tag n) ∙ n .before .tag .given .1) (u .in-use .ensures)
+          (v .verdict-one .ensures) (p .pass .ensures .0) (held (p .pass .last .0)) (held (k .put-command .last .0)) _
+          (p .pass .ensures .1 .is) (k .put-command .ensures .is) (c .leave .ensures .is),
+    )
 
 pub take-one-spec : {M : Type 1} → statement M
 take-one-spec =
     tie.close
     (tie.spec
     (λ c κs. search needs)
-    (λ c. search needs)
-    (λ c. search needs)
-    (λ c κs. search needs)
-    returns
-    (λ c κs. search needs)
     (λ c κs. search needs)
     (λ c. search needs)
     (λ c. search needs)
-    cast-t14
+    none-free
+    cast-t
+    (λ c κs. search needs)
+    (λ c κs. search needs)
+    (λ c κs. search needs)
+    (λ c. search needs)
+    put-command-requires
+    (λ c κs. search needs)
     returns-2)

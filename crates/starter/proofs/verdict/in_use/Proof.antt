@@ -1,42 +1,44 @@
 -- `in_use` meets its contract. The invariant: the tags in `left` are still to be looked at. Assumes nothing.
-use Prim.Native.Nat.{_-_, _^_}
+use Prim.Native.Nat.{_-_, _<_, _^_}
+use mathlib.Core.Path.{sym}
 use native.Mathlib.Omega.{arith}
 use lib.Count.{trailingZeros}
 use lib.Pow.{pow-pos}
 use borrow.Author.Needs.{needs}
 use Rattle.bits.proofs.Bits.{shl-one, sub-fits}
 use Rattle.bits.proofs.Tags.{OneTaken}
+use Rattle.store.specs.Held.{held}
 use Rattle.starter.proofs.Verdicts.{ToSee, all-to-see, lowest-to-see, one-found, one-seen, none-to-see}
 use Rattle.starter.proofs.verdict.in_use.Statement.{statement}
 use Rattle.starter.proofs.verdict.in_use.Tie as tie
 
 abbrev Inv-loop : tie.InvT-loop
-Inv-loop free sq a b ks left₀ left = ToSee ks free sq a b left
+Inv-loop state sq a b left₀ left = let c = held state in ToSee (c .commands) (c .free) sq a b left
 
 abbrev μ-loop : tie.MeasureT-loop
-μ-loop free sq a b ks left₀ left = left
+μ-loop state sq a b left₀ left = left
 
 loop-holds : tie.Need-loop-holds Inv-loop μ-loop
-loop-holds c = all-to-see _ _ _ _ _ (c .fits .free .fits)
+loop-holds c =
+    let h : c .free-of .result < 2 ^ 64 = search needs in
+    rw (c .free-of .ensures) (all-to-see _ _ _ _ _ (rw (c .free-of .ensures) at h))
 
 -- the tag that a turn looks at
 tag : (c : tie.In-loop Inv-loop μ-loop)
     → let left = c .before .loop .left in OneTaken left (trailingZeros 64 left) (left - 2 ^ trailingZeros 64 left)
 tag c = lowest-to-see _ _ _ _ _ (c .before .loop .inv) (c .loop-test .taken)
 
-cast-k : tie.Need-cast-k Inv-loop μ-loop
-cast-k c = omega (arith, tag c .low)
+cast-command-at : tie.Need-cast-command-at Inv-loop μ-loop
+cast-command-at c = omega (arith, tag c .low)
 
-mul-k : tie.Need-mul-k Inv-loop μ-loop
-mul-k c = omega (arith, tag c .low)
-
-array-copy-out-k : tie.Need-array-copy-out-k Inv-loop μ-loop
-array-copy-out-k c = tag c .low
+command-at-requires : tie.Need-command-at-requires Inv-loop μ-loop
+command-at-requires c κs = tag c .low
 
 returns : tie.Need-returns Inv-loop μ-loop
 returns c =
-    let l = c .before .before .before .before .before in
-    one-found _ _ _ _ _ (l .before .loop .inv) (tag l) (c .if1 .taken)
+    let k = c .before .before .before .before in
+    let l = k .before in
+    one-found _ _ _ _ _ (l .before .loop .inv) (tag l) (rw (sym (k .command-at .ensures)) (c .if1 .taken))
 
 cast-left : tie.Need-cast-left Inv-loop μ-loop
 cast-left c = omega (arith, tag (c .before .before .before .before .before) .low)
@@ -55,8 +57,10 @@ loop-less c =
 
 loop-again : tie.Need-loop-again Inv-loop μ-loop
 loop-again c =
-    let l = c .before .before .before .before .before in
-    rw (shl-one 64 _ (tag l .low)) (one-seen _ _ _ _ _ (l .before .loop .inv) (tag l) (c .if1 .left))
+    let k = c .before .before .before .before in
+    let l = k .before in
+    rw (shl-one 64 _ (tag l .low))
+    (one-seen _ _ _ _ _ (l .before .loop .inv) (tag l) (rw (sym (k .command-at .ensures)) (c .if1 .left)))
 
 returns-2 : tie.Need-returns-2 Inv-loop μ-loop
 returns-2 c = none-to-see _ _ _ _ _ (c .before .loop .inv) (c .loop-test .left)
@@ -67,11 +71,11 @@ in-use-spec =
     (tie.spec
     Inv-loop
     μ-loop
+    (λ c κs. search needs)
     (λ c. search needs)
     loop-holds
-    cast-k
-    mul-k
-    array-copy-out-k
+    cast-command-at
+    command-at-requires
     returns
     cast-left
     shl-left
