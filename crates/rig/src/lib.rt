@@ -1,18 +1,24 @@
-// What the rig's C program links, on plain numbers and byte buffers: include/bellrafter.h declares it. An answer of several
+// What a C program links: include/bellrafter.h declares it. Here the calls on plain numbers and byte buffers. An answer of several
 // numbers goes back in a struct; beside a refusal every other number is 0.
 ghost use mathlib.Core.Path.{_≡_};
 ghost use lib.ListN.{length};
 ghost use Rattle.le.specs.Memory.{put};
 ghost use Rattle.entry.specs.Completion.{completion, writeRefusal, written, completionRead};
+ghost use Rattle.entry.specs.Submission.{submissionRead};
+ghost use Rattle.entry.specs.Submission as submission;
 ghost use Rattle.ring.specs.Doorbell.{tailCheck, headCheck};
 ghost use Rattle.ring.specs.Reader.{ringRead};
 ghost use Rattle.prp.specs.Pages.{pageSize, byteCounts};
 ghost use Rattle.prp.specs.Walk.{pageWalk};
 ghost use Rattle.prp.specs.Answer.{answer, addressesOf, numbers};
-ghost use Rattle.rig.specs.Answers.{completionAnswer, waitingAnswer, pagesAnswer};
+ghost use Rattle.rig.specs.Answers.{submissionOf, submissionNumbers, completionAnswer, waitingAnswer, pagesAnswer};
 use entry::completion::CompletionRead;
+use entry::submission::Submission;
+use entry::submission::SubmissionRead;
 use prp::Walked;
 use ring::reader::Waiting;
+
+pub mod state;
 
 #[repr(C)]
 pub struct CompletionAnswer {
@@ -26,6 +32,25 @@ pub struct CompletionAnswer {
 }
 
 #[repr(C)]
+pub struct SubmissionNumbers {
+    pub refusal: u64,
+    pub fuse: u64,
+    pub psdt: u64,
+    pub mptr: u64,
+    pub prp1: u64,
+    pub prp2: u64,
+    pub slba: u64,
+    pub nsid: u32,
+    pub cdw13: u32,
+    pub cdw14: u32,
+    pub cdw15: u32,
+    pub cid: u16,
+    pub nlb: u16,
+    pub cdw12: u16,
+    pub opc: u16,
+}
+
+#[repr(C)]
 pub struct WaitingAnswer {
     pub refusal: u64,
     pub count: u64,
@@ -36,6 +61,93 @@ pub struct PagesAnswer {
     pub refusal: u64,
     pub pages: u64,
     pub reads: u64,
+}
+
+// Writes a submission entry into the first 64 bytes of `entry`.
+#[no_mangle]
+pub extern "C" fn bellrafter_submission_write(
+    entry: &mut [u8],
+    opc: u8,
+    fuse: u64,
+    psdt: u64,
+    cid: u16,
+    nsid: u32,
+    mptr: u64,
+    prp1: u64,
+    prp2: u64,
+    slba: u64,
+    nlb: u16,
+    cdw12: u16,
+    cdw13: u32,
+    cdw14: u32,
+    cdw15: u32,
+) -> u64
+    ensures { λ r. ⌜ r ≡ submission.writeRefusal (length (now (entry .entry))) ⌝ }
+    ensures { λ _. ⌜ now (entry .exit) ≡ submission.written (now (entry .entry))
+        (submissionOf opc fuse psdt cid nsid mptr prp1 prp2 slba nlb cdw12 cdw13 cdw14 cdw15) ⌝ }
+{
+    entry::submission::write(
+        entry,
+        Submission {
+            opc: opc,
+            fuse: fuse,
+            psdt: psdt,
+            cid: cid,
+            nsid: nsid,
+            mptr: mptr,
+            prp1: prp1,
+            prp2: prp2,
+            slba: slba,
+            nlb: nlb,
+            cdw12: cdw12,
+            cdw13: cdw13,
+            cdw14: cdw14,
+            cdw15: cdw15,
+        },
+    )
+}
+
+// Reads the submission entry in the first 64 bytes of `entry`.
+#[no_mangle]
+pub extern "C" fn bellrafter_submission_read(entry: &[u8]) -> SubmissionNumbers
+    ensures { λ r. ⌜ r ≡ submissionNumbers (submissionRead (now (entry .entry))) ⌝ }
+{
+    match entry::submission::read(entry) {
+        SubmissionRead::Entry(e) => SubmissionNumbers {
+            refusal: 0,
+            fuse: e.fuse,
+            psdt: e.psdt,
+            mptr: e.mptr,
+            prp1: e.prp1,
+            prp2: e.prp2,
+            slba: e.slba,
+            nsid: e.nsid,
+            cdw13: e.cdw13,
+            cdw14: e.cdw14,
+            cdw15: e.cdw15,
+            cid: e.cid,
+            nlb: e.nlb,
+            cdw12: e.cdw12,
+            opc: e.opc as u16,
+        },
+        SubmissionRead::Refused(number) => SubmissionNumbers {
+            refusal: number,
+            fuse: 0,
+            psdt: 0,
+            mptr: 0,
+            prp1: 0,
+            prp2: 0,
+            slba: 0,
+            nsid: 0,
+            cdw13: 0,
+            cdw14: 0,
+            cdw15: 0,
+            cid: 0,
+            nlb: 0,
+            cdw12: 0,
+            opc: 0,
+        },
+    }
 }
 
 // Writes a completion entry into the first 16 bytes of `entry`.
