@@ -1,4 +1,8 @@
+#define _DEFAULT_SOURCE /* MAP_ANONYMOUS */
 #include "check.h"
+
+#include <stdlib.h>
+#include <sys/mman.h>
 
 /* Failures printed; the rest are only counted. */
 enum { PRINTED = 40 };
@@ -24,6 +28,46 @@ struct answer of_waiting(struct bellrafter_waiting waiting)
 struct answer of_pages(struct bellrafter_pages pages)
 {
     return (struct answer){3, {pages.refusal, pages.pages, pages.reads}};
+}
+
+struct answer of_start(struct bellrafter_start s)
+{
+    return (struct answer){7, {s.refusal, s.sq, s.count, s.first, s.second, s.slot, s.verdict}};
+}
+
+struct answer of_finish(struct bellrafter_finish f)
+{
+    return (struct answer){2, {f.refusal, f.slot}};
+}
+
+struct answer of_sq(struct bellrafter_sq q)
+{
+    return (struct answer){8, {q.refusal, q.base, q.size, q.head, q.tail, q.marked, q.cq, q.priority_class}};
+}
+
+struct answer of_cq(struct bellrafter_cq q)
+{
+    return (struct answer){6, {q.refusal, q.base, q.size, q.head, q.tail, q.phase}};
+}
+
+struct answer of_command(struct bellrafter_command c)
+{
+    return (struct answer){4, {c.refusal, c.sq, c.cid, c.verdict}};
+}
+
+struct answer of_arbiter(struct bellrafter_arbiter a)
+{
+    return (struct answer){
+        13,
+        {a.mechanism, a.word, a.holder, a.remainder, a.high_holder, a.high_remainder, a.high_credit, a.medium_holder,
+         a.medium_remainder, a.medium_credit, a.low_holder, a.low_remainder, a.low_credit}};
+}
+
+struct answer of_submission(struct bellrafter_submission s)
+{
+    return (struct answer){15,
+                           {s.refusal, s.opc, s.fuse, s.psdt, s.cid, s.nsid, s.mptr, s.prp1, s.prp2, s.slba, s.nlb,
+                            s.cdw12_upper, s.cdw13, s.cdw14, s.cdw15}};
 }
 
 static void count(bool good)
@@ -74,6 +118,13 @@ void expect(const char *what, struct answer wanted, struct answer came)
     compare(what, wanted, came, NULL, 0);
 }
 
+void require(bool met, const char *what)
+{
+    if (!met && failed < PRINTED)
+        printf("FAILED %s\n", what);
+    count(met);
+}
+
 static struct {
     const char *what;
     uint64_t times;
@@ -108,6 +159,11 @@ void seed_random(uint64_t seed)
     state = seed;
 }
 
+uint64_t random_place(void)
+{
+    return state;
+}
+
 uint64_t any_number(void)
 {
     uint64_t z = state += UINT64_C(0x9E3779B97F4A7C15);
@@ -120,6 +176,11 @@ uint64_t any_number(void)
 uint64_t below(uint64_t bound)
 {
     return any_number() % bound;
+}
+
+uint64_t beyond(uint64_t limit)
+{
+    return once_in(2) ? limit + below(3) : any_number() | limit;
 }
 
 bool once_in(uint64_t times)
@@ -146,4 +207,31 @@ struct answer call_walk(page_walk *function, const struct walk *w, const uint8_t
 
     return of_pages(function(w->memory_bytes > 0 ? memory : NULL, w->memory_bytes, w->prp1, w->prp2, w->length, w->page,
                              addresses, w->address_bytes, counts, w->count_bytes));
+}
+
+enum { PAGE = 4096 };
+
+struct guarded guarded_bytes(size_t room)
+{
+    size_t whole = (room + PAGE - 1) / PAGE * PAGE;
+    uint8_t *pages = mmap(NULL, PAGE + whole + PAGE, PROT_NONE, MAP_PRIVATE | MAP_ANONYMOUS, -1, 0);
+
+    if (pages == MAP_FAILED || mprotect(pages + PAGE, whole, PROT_READ | PROT_WRITE) != 0) {
+        perror("no memory with guard pages");
+        exit(2);
+    }
+    return (struct guarded){pages + PAGE, whole};
+}
+
+uint8_t *last_bytes(struct guarded guarded, size_t count)
+{
+    return guarded.bytes + guarded.room - count;
+}
+
+void read_only(struct guarded guarded, bool yes)
+{
+    if (mprotect(guarded.bytes, guarded.room, yes ? PROT_READ : PROT_READ | PROT_WRITE) != 0) {
+        perror("no change of protection");
+        exit(2);
+    }
 }

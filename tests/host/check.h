@@ -1,4 +1,4 @@
-/* What both parts of the test share: expectations, random numbers, buffers with guard bytes. */
+/* What all parts of the test share: expectations, random numbers, buffers with guard bytes and guard pages. */
 #ifndef CHECK_H
 #define CHECK_H
 
@@ -20,13 +20,20 @@ extern uint64_t failed;
 /* An answer as a row of numbers, the refusal number first. */
 struct answer {
     size_t count;
-    uint64_t number[7];
+    uint64_t number[16];
 };
 
 struct answer of_number(uint64_t refusal);
 struct answer of_completion(struct bellrafter_completion completion);
 struct answer of_waiting(struct bellrafter_waiting waiting);
 struct answer of_pages(struct bellrafter_pages pages);
+struct answer of_start(struct bellrafter_start start);
+struct answer of_finish(struct bellrafter_finish finish);
+struct answer of_sq(struct bellrafter_sq sq);
+struct answer of_cq(struct bellrafter_cq cq);
+struct answer of_command(struct bellrafter_command command);
+struct answer of_arbiter(struct bellrafter_arbiter arbiter);
+struct answer of_submission(struct bellrafter_submission submission);
 
 /* A buffer after a call, from its first guard byte on. */
 struct view {
@@ -42,15 +49,23 @@ void compare(const char *what, struct answer wanted, struct answer came, const s
 /* One expectation, of an answer alone. */
 void expect(const char *what, struct answer wanted, struct answer came);
 
+/* One expectation, of anything: prints the text if it is not met. */
+void require(bool met, const char *what);
+
 /* Counts how often each thing named happened. */
 void note(const char *what, bool happened);
 
 /* Prints the counts, one expectation each that it is not 0, and starts again. */
 void report_notes(const char *title);
 
-/* Random numbers: any, one below a bound, a choice that is true once in so many times. */
+/*
+ * Random numbers: any, one below a bound, one that is too large (near the limit or anywhere), a choice that is true
+ * once in so many times. The place in the row of numbers is a seed that leads back to it.
+ */
 void seed_random(uint64_t seed);
+uint64_t random_place(void);
 uint64_t any_number(void);
+uint64_t beyond(uint64_t limit);
 uint64_t below(uint64_t bound);
 bool once_in(uint64_t times);
 void fill_random(uint8_t *bytes, size_t count);
@@ -77,8 +92,25 @@ struct results {
 /* Calls a page walk; a buffer of no bytes is passed as NULL. */
 struct answer call_walk(page_walk *function, const struct walk *w, const uint8_t *memory, struct results *results);
 
-/* The two parts of the test. */
+/*
+ * Bytes between two pages that cannot be touched: whoever reads or writes past the end crashes. Where fewer bytes are
+ * needed than there are, the last ones are used.
+ */
+struct guarded {
+    uint8_t *bytes;
+    size_t room;
+};
+
+struct guarded guarded_bytes(size_t room);
+uint8_t *last_bytes(struct guarded guarded, size_t count);
+
+/* Lets the bytes be read alone, or read and written again. */
+void read_only(struct guarded guarded, bool yes);
+
+/* The parts of the test. */
 void fixed_cases(void);
+void controller_cases(void);
 void random_calls(uint64_t calls);
+void random_controllers(uint64_t calls);
 
 #endif

@@ -2,11 +2,11 @@
  * Calls every function of bellrafter.h: first the fixed cases, each with the answer that it must have, then random
  * calls, each compared with the reference.
  *
- * host [SEED [CALLS]]   CALLS random calls of each function
+ * host [SEED [CALLS]]   CALLS random calls of each function that needs no controller, 20 times as many of controllers
  */
 #include <stdlib.h>
 
-#include "check.h"
+#include "twin.h"
 
 int main(int argc, char **argv)
 {
@@ -15,9 +15,13 @@ int main(int argc, char **argv)
 
     setvbuf(stdout, NULL, _IOLBF, BUFSIZ); /* so that nothing printed is lost if a call crashes */
     printf("seed %" PRIu64 "\n", seed);
+    open_twin();
     fixed_cases();
+    controller_cases();
+    printf("fixed cases: %" PRIu64 " passed, %" PRIu64 " calls of the controller\n", passed, calls_made);
     seed_random(seed);
     random_calls(calls);
+    random_controllers(20 * calls);
     printf("%" PRIu64 " passed, %" PRIu64 " failed\n", passed, failed);
     return failed > 0;
 }

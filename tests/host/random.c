@@ -2,12 +2,6 @@
 #include "check.h"
 #include "reference.h"
 
-/* A number too large: near the limit or anywhere. */
-static uint64_t beyond(uint64_t limit)
-{
-    return once_in(2) ? limit + below(3) : any_number() | limit;
-}
-
 /* Writes an entry and reads it; where the writing is refused, any bytes are read. */
 static void random_entries(uint64_t calls)
 {
@@ -41,6 +35,46 @@ static void random_entries(uint64_t calls)
         note("read refusal 21", c.refusal == 21);
     }
     report_notes("completion_write, completion_read");
+}
+
+/* Writes a submission and reads it, right before a page that cannot be touched; then reads any bytes. */
+static void random_submissions(uint64_t calls)
+{
+    struct guarded area = guarded_bytes(128);
+    uint8_t wanted[128];
+    char what[80];
+
+    while (calls-- > 0) {
+        size_t bytes = once_in(4) ? below(64) : 64 + below(32);
+        uint8_t *expected = wanted + sizeof wanted - bytes, *entry = last_bytes(area, bytes);
+        uint8_t *all = last_bytes(area, sizeof wanted);
+        struct view view = {"entry", wanted, all, sizeof wanted};
+        uint64_t n[14];
+
+        for (size_t i = 0; i < COUNT_OF(n); i++)
+            n[i] = any_number();
+        fill_random(wanted, sizeof wanted);
+        memcpy(all, wanted, sizeof wanted);
+        snprintf(what, sizeof what, "submission: %zu bytes", bytes);
+        uint64_t reference = ref_submission_write(
+            expected, bytes, (uint8_t)n[0], n[1], n[2], (uint16_t)n[3], (uint32_t)n[4], n[5], n[6], n[7], n[8],
+            (uint16_t)n[9], (uint16_t)n[10], (uint32_t)n[11], (uint32_t)n[12], (uint32_t)n[13]);
+        uint64_t refusal = bellrafter_submission_write(
+            bytes > 0 ? entry : NULL, bytes, (uint8_t)n[0], n[1], n[2], (uint16_t)n[3], (uint32_t)n[4], n[5], n[6],
+            n[7], n[8], (uint16_t)n[9], (uint16_t)n[10], (uint32_t)n[11], (uint32_t)n[12], (uint32_t)n[13]);
+        compare(what, of_number(reference), of_number(refusal), &view, 1);
+        for (int round = 0; round < 2; round++) {
+            struct bellrafter_submission s = bellrafter_submission_read(bytes > 0 ? entry : NULL, bytes);
+            compare(what, of_submission(ref_submission_read(expected, bytes)), of_submission(s), &view, 1);
+            note("read refusal 21", s.refusal == 21);
+            note("read, any bytes", s.refusal == 0 && round == 1);
+            fill_random(wanted, sizeof wanted);
+            memcpy(all, wanted, sizeof wanted);
+        }
+        note("written", refusal == 0);
+        note("write refusal 21", refusal == 21);
+    }
+    report_notes("submission_write, submission_read");
 }
 
 /* Gives each slot the tag that it has after `posted` entries. */
@@ -295,6 +329,7 @@ static void random_walks(uint64_t page, uint64_t calls)
 void random_calls(uint64_t calls)
 {
     random_entries(calls);
+    random_submissions(calls);
     random_rings(calls);
     random_doorbells("tail_check", bellrafter_tail_check, ref_tail_check, calls);
     random_doorbells("head_check", bellrafter_head_check, ref_head_check, calls);

@@ -48,6 +48,51 @@ struct bellrafter_completion ref_completion_read(const uint8_t *entry, size_t en
     };
 }
 
+uint64_t ref_submission_write(uint8_t *entry, size_t entry_bytes, uint8_t opc, uint64_t fuse, uint64_t psdt,
+                              uint16_t cid, uint32_t nsid, uint64_t mptr, uint64_t prp1, uint64_t prp2, uint64_t slba,
+                              uint16_t nlb, uint16_t cdw12_upper, uint32_t cdw13, uint32_t cdw14, uint32_t cdw15)
+{
+    if (entry_bytes < 64)
+        return BELLRAFTER_BUFFER;
+    set(entry, 1, opc);
+    set(entry + 1, 1, psdt % 4 << 6 | fuse % 4);
+    set(entry + 2, 2, cid);
+    set(entry + 4, 4, nsid);
+    set(entry + 8, 8, 0);
+    set(entry + 16, 8, mptr);
+    set(entry + 24, 8, prp1);
+    set(entry + 32, 8, prp2);
+    set(entry + 40, 8, slba);
+    set(entry + 48, 2, nlb);
+    set(entry + 50, 2, cdw12_upper);
+    set(entry + 52, 4, cdw13);
+    set(entry + 56, 4, cdw14);
+    set(entry + 60, 4, cdw15);
+    return BELLRAFTER_DONE;
+}
+
+struct bellrafter_submission ref_submission_read(const uint8_t *entry, size_t entry_bytes)
+{
+    if (entry_bytes < 64)
+        return (struct bellrafter_submission){.refusal = BELLRAFTER_BUFFER};
+    return (struct bellrafter_submission){
+        .opc = entry[0],
+        .fuse = entry[1] % 4,
+        .psdt = entry[1] / 64,
+        .cid = (uint16_t)get(entry + 2, 2),
+        .nsid = (uint32_t)get(entry + 4, 4),
+        .mptr = get(entry + 16, 8),
+        .prp1 = get(entry + 24, 8),
+        .prp2 = get(entry + 32, 8),
+        .slba = get(entry + 40, 8),
+        .nlb = (uint16_t)get(entry + 48, 2),
+        .cdw12_upper = (uint16_t)get(entry + 50, 2),
+        .cdw13 = (uint32_t)get(entry + 52, 4),
+        .cdw14 = (uint32_t)get(entry + 56, 4),
+        .cdw15 = (uint32_t)get(entry + 60, 4),
+    };
+}
+
 static bool size_wrong(uint64_t size)
 {
     return size < 2 || size > 1024;
