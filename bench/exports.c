@@ -1,24 +1,19 @@
 /*
- * Times the calls of bellrafter.h against the same calls in plain C, in one process: both on the same inputs and
- * buffers, through the same loop, in alternating runs. Before a row is timed each of its calls is made on both sides,
- * and answers and buffers must be equal.
- *
- * Prints for each row the medians of the nanoseconds a call, their ratio, and the smallest and the largest ratio of two
- * neighbouring runs. The loop around the calls is in all of them.
+ * Times the calls of bellrafter.h that need no controller against the same calls in plain C, in one process: both on
+ * the same inputs and buffers, through the same loop, in alternating runs. Before a row is timed each of its calls is
+ * made on both sides, and answers and buffers must be equal. The loop around the calls is in all times.
  */
-#define _POSIX_C_SOURCE 199309L
-
 #include <stdio.h>
 #include <stdlib.h>
 #include <string.h>
-#include <time.h>
 
 #include "plain.h"
+#include "timing.h"
 
 #define COUNT_OF(array) (sizeof(array) / sizeof(array)[0])
 
-/* RUN_NS: how long a run takes at least. INPUTS: a row has no more inputs than these. */
-enum { RUNS = 21, RUN_NS = 20000000, INPUTS = 512, SLOTS = 64, MOST_ENTRIES = 1024, MOST_PAGES = 257 };
+/* INPUTS: a row has no more inputs than these. */
+enum { INPUTS = 512, SLOTS = 64, MOST_ENTRIES = 1024, MOST_PAGES = 257 };
 
 /* One of the two sides. */
 struct side {
@@ -272,57 +267,28 @@ static void compare(const struct row *row)
     }
 }
 
-static double run_ns(const struct row *row, const struct side *side, uint64_t calls)
+static double run_ns(const void *of_row, const void *side, uint64_t calls)
 {
-    struct timespec from, to;
+    const struct row *row = of_row;
+    double from = spent_ns();
 
-    clock_gettime(CLOCK_MONOTONIC, &from);
     row->run(side, 0, calls);
-    clock_gettime(CLOCK_MONOTONIC, &to);
-    return (double)(to.tv_sec - from.tv_sec) * 1e9 + (double)(to.tv_nsec - from.tv_nsec);
-}
-
-static int by_size(const void *a, const void *b)
-{
-    double x = *(const double *)a, y = *(const double *)b;
-
-    return (x > y) - (x < y);
-}
-
-/* Warms both sides up, finding how many calls make a run; then times them in turn. */
-static void measure(const struct row *row)
-{
-    double our_ns[RUNS], plain_ns[RUNS], ratios[RUNS];
-    uint64_t calls = 1;
-
-    while (run_ns(row, &ours, calls) < RUN_NS || run_ns(row, &plain, calls) < RUN_NS)
-        calls *= 2;
-    for (int i = 0; i < RUNS; i++) {
-        if (i % 2 == 0)
-            our_ns[i] = run_ns(row, &ours, calls);
-        plain_ns[i] = run_ns(row, &plain, calls);
-        if (i % 2 == 1)
-            our_ns[i] = run_ns(row, &ours, calls);
-        ratios[i] = our_ns[i] / plain_ns[i];
-    }
-    qsort(our_ns, RUNS, sizeof our_ns[0], by_size);
-    qsort(plain_ns, RUNS, sizeof plain_ns[0], by_size);
-    qsort(ratios, RUNS, sizeof ratios[0], by_size);
-    double our_median = our_ns[RUNS / 2] / (double)calls, plain_median = plain_ns[RUNS / 2] / (double)calls;
-    printf("%-38s %9.2f %9.2f %6.2f  %.2f to %.2f\n", row->what, our_median, plain_median, our_median / plain_median,
-           ratios[0], ratios[RUNS - 1]);
+    return spent_ns() - from;
 }
 
 /* exports [TEXT]: the rows whose name contains TEXT. */
 int main(int argc, char **argv)
 {
-    printf("%-38s %9s %9s %6s  %s\n", "what", "ours ns", "C ns", "ratio", "spread");
+    struct times times;
+
+    print_heading("without a controller");
     for (size_t i = 0; i < COUNT_OF(rows); i++) {
         if (argc > 1 && strstr(rows[i].what, argv[1]) == NULL)
             continue;
         rows[i].make(rows[i].numbers[0], rows[i].numbers[1]);
         compare(&rows[i]);
-        measure(&rows[i]);
+        time_both(&times, run_ns, &rows[i], &ours, &plain);
+        print_row(rows[i].what, &times, 1, 0);
     }
     return 0;
 }

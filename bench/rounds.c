@@ -1,6 +1,6 @@
 /*
- * The loop of crates/rounds over the plain controller: the plan from standard input, the digest of all answers to standard output.
- * `rounds sizeof` prints the bytes of a controller.
+ * The loop of crates/rounds over the plain controller: the plan from standard input, the digest of all answers to
+ * standard output.
  */
 #include "controller.h"
 
@@ -128,15 +128,12 @@ static void batch(struct run *run, const struct plan *p)
     release(run, p->busy, SUBMITTED);
 }
 
-int main(int argc, char **argv)
+int main(void)
 {
     struct plan p;
     struct run run = {0};
-    if (argc == 2 && strcmp(argv[1], "sizeof") == 0) {
-        printf("%zu\n", sizeof(struct controller));
-        return 0;
-    }
-    if (scanf("%" SCNu64 "%" SCNu64 "%" SCNu64 "%" SCNu64 "%" SCNu64, &p.kind, &p.mechanism, &p.busy, &p.outstanding, &p.batches) != 5)
+    if (scanf("%" SCNu64 "%" SCNu64 "%" SCNu64 "%" SCNu64 "%" SCNu64, &p.kind, &p.mechanism, &p.busy, &p.outstanding,
+              &p.batches) != 5)
         return 1;
     create_queues(&run, p.mechanism, p.kind == PAIRS);
     submit(&run, 1, p.outstanding);

@@ -1,0 +1,207 @@
+/*
+ * The loops that are timed, over the calls of one side. It is no header: each side includes it once, in a translation
+ * unit of its own, so that both have the same loop around calls that are not inlined. Before, the side has defined its
+ * calls as static functions, which add as little as they can:
+ *
+ *     call_new, call_create_cq, call_create_sq, call_tail, call_head, call_start, call_finish, call_look
+ *     call_save, call_restore      the controller's state is kept, and put back
+ */
+
+/* What was heard; the tail of each busy queue, the tail of its completion queue, and the tag to finish next. */
+static struct progress {
+    uint64_t digest, refused, tail, posted, tag;
+} at;
+
+static inline uint64_t mixed(uint64_t digest, uint64_t x)
+{
+    return digest * 31 + x;
+}
+
+static inline void hear(uint64_t refusal)
+{
+    at.digest = mixed(at.digest, refusal);
+    at.refused |= refusal;
+}
+
+static inline uint64_t number_of_start(struct bellrafter_start s)
+{
+    return s.verdict << 48 | s.slot << 32 | s.second << 24 | s.first << 16 | s.count << 12 | s.sq << 8 | s.refusal;
+}
+
+static inline uint64_t number_of_finish(struct bellrafter_finish f)
+{
+    return f.slot << 8 | f.refusal;
+}
+
+/* Starts n times; after each start come so many finishes, of the tags up to the last one in turn. */
+static void trips(uint64_t n, uint64_t finishes, uint64_t last_tag)
+{
+    uint64_t digest = at.digest, refused = at.refused, tag = at.tag;
+
+    for (uint64_t i = 0; i < n; i++) {
+        struct bellrafter_start s = call_start();
+        digest = mixed(digest, number_of_start(s));
+        refused |= s.refusal | s.verdict;
+        for (uint64_t k = 0; k < finishes; k++) {
+            struct bellrafter_finish f = call_finish(tag, 0, (uint32_t)i);
+            digest = mixed(digest, number_of_finish(f));
+            refused |= f.refusal;
+            tag = last_tag <= tag ? 0 : tag + 1;
+        }
+    }
+    at.digest = digest;
+    at.refused = refused;
+    at.tag = tag;
+}
+
+/* A single busy queue is queue 1, which is not Admin. */
+static void submit(uint64_t busy, uint64_t n)
+{
+    at.tail = (at.tail + n) % SHORT;
+    for (uint64_t i = 0; i < busy; i++)
+        hear(call_tail((busy == 1) + i, at.tail));
+}
+
+static void release(uint64_t busy, uint64_t n)
+{
+    at.posted = (at.posted + n) % SHORT;
+    for (uint64_t i = 0; i < busy; i++)
+        hear(call_head((busy == 1) + i, at.posted));
+}
+
+/* Where a completion queue's head stands before doorbells are written: each queue at another place. */
+static inline uint64_t first_head(uint64_t id)
+{
+    return STAGGER * id;
+}
+
+/* Where a submission queue's head and tail and a completion queue's tail stand then. */
+static inline uint64_t first_tail(uint64_t id)
+{
+    return (STAGGER * id + LONG - 1) % LONG;
+}
+
+static inline uint64_t write_tail(uint64_t id, uint64_t step)
+{
+    return call_tail(id, (first_tail(id) + step) % LONG);
+}
+
+static inline uint64_t write_head(uint64_t id, uint64_t step)
+{
+    return call_head(id, (first_head(id) + step) % LONG);
+}
+
+/* Leads each queue to its place, its submission ring empty and its completion ring full. */
+static void stagger(void)
+{
+    for (uint64_t id = 1; id < QUEUES; id++)
+        hear(call_tail(id, first_head(id)));
+    trips(STAGGER * QUEUES * (QUEUES - 1) / 2, 1, 0);
+    for (uint64_t id = 1; id < QUEUES; id++)
+        hear(call_head(id, first_head(id)));
+    for (uint64_t id = 0; id < QUEUES; id++)
+        hear(call_tail(id, first_tail(id)));
+    trips(QUEUES * (LONG - 1), 1, 0);
+}
+
+static struct heard heard(void)
+{
+    return (struct heard){at.digest, at.refused};
+}
+
+static struct heard prepare(const struct plan *plan)
+{
+    uint64_t size = ring_size(plan);
+
+    at = (struct progress){.digest = 1};
+    hear(call_new(plan->mechanism, WORD));
+    for (uint64_t id = 0; id < QUEUES; id++) {
+        hear(call_create_cq(id, size, cq_base(size, id)));
+        hear(call_create_sq(id, size, sq_base(size, id), id, id % 4));
+    }
+    if (size == LONG) {
+        stagger();
+    } else if (plan->outstanding > 0) {
+        submit(1, plan->outstanding);
+        trips(plan->outstanding, 0, 0);
+    }
+    call_save();
+    return heard();
+}
+
+static void tails(void)
+{
+    uint64_t digest = at.digest, refused = at.refused;
+
+    call_restore();
+    for (uint64_t step = 1; step < LONG; step++) {
+        for (uint64_t id = 0; id < QUEUES; id++) {
+            uint64_t refusal = write_tail(id, step);
+            digest = mixed(digest, refusal);
+            refused |= refusal;
+        }
+    }
+    at.digest = digest;
+    at.refused = refused;
+}
+
+static void heads(void)
+{
+    uint64_t digest = at.digest, refused = at.refused;
+
+    call_restore();
+    for (uint64_t step = 1; step < LONG; step++) {
+        for (uint64_t id = 0; id < QUEUES; id++) {
+            uint64_t refusal = write_head(id, step);
+            digest = mixed(digest, refusal);
+            refused |= refusal;
+        }
+    }
+    at.digest = digest;
+    at.refused = refused;
+}
+
+static void commands(const struct plan *plan)
+{
+    submit(plan->busy, SUBMITTED);
+    if (plan->kind == PAIRS)
+        trips(SUBMITTED * plan->busy / 2, 2, plan->outstanding + 1);
+    else
+        trips(SUBMITTED * plan->busy, 1, plan->outstanding);
+    release(plan->busy, SUBMITTED);
+}
+
+static struct heard run(const struct plan *plan, uint64_t batches)
+{
+    for (uint64_t i = 0; i < batches; i++) {
+        if (plan->kind == TAILS)
+            tails();
+        else if (plan->kind == HEADS)
+            heads();
+        else
+            commands(plan);
+    }
+    return heard();
+}
+
+static void look(struct seen *seen)
+{
+    for (uint64_t id = 0; id < QUEUES; id++)
+        call_look(id, &seen->queues[id]);
+}
+
+static struct heard watch(const struct plan *plan)
+{
+    struct place place;
+
+    call_restore();
+    for (uint64_t step = 1; step < LONG; step++) {
+        for (uint64_t id = 0; id < QUEUES; id++) {
+            hear(plan->kind == TAILS ? write_tail(id, step) : write_head(id, step));
+            call_look(id, &place);
+            at.digest = mixed(mixed(at.digest, place.sq_head), place.sq_tail);
+            at.digest = mixed(mixed(mixed(at.digest, place.cq_head), place.cq_tail), place.phase);
+        }
+    }
+    return heard();
+}

@@ -1,0 +1,83 @@
+/* What the sides of the controller's benchmark share: what is timed, and the memory that the rings lie in. */
+#ifndef BENCH_WORKLOAD_H
+#define BENCH_WORKLOAD_H
+
+#include <stdint.h>
+
+/*
+ * SHORT and LONG: entries of a ring, where commands and where doorbell writes are timed. SUBMITTED: the commands that a
+ * batch submits to each busy queue. STAGGER: how far a queue stands behind the next one before doorbells are written.
+ * WORD: a burst of 4, and the weights 2, 4 and 8. MEMORY: room for 16 long rings of either kind.
+ */
+enum {
+    QUEUES = 16,
+    SHORT = 64,
+    LONG = 1024,
+    SUBMITTED = 62,
+    STAGGER = 64,
+    WORD = 0x07030102,
+    MEMORY = QUEUES * LONG * (64 + 16)
+};
+
+enum kind { TAILS, HEADS, COMMANDS, PAIRS };
+
+/*
+ * What is timed. TAILS and HEADS: a batch moves the tail of each queue, or the head of each completion queue, on by one
+ * until it can go no further, all queues in turn; then the controller is put back to where it was. COMMANDS and PAIRS:
+ * a batch submits to the busy queues, starts and finishes all of it and releases the completions, while `outstanding`
+ * other commands stay outstanding: each finish takes the oldest one.
+ */
+struct plan {
+    enum kind kind;
+    uint64_t mechanism;
+    uint64_t busy;
+    uint64_t outstanding;
+};
+
+/* What the calls have answered: a digest, and all refusals and verdicts by "or". */
+struct heard {
+    uint64_t digest;
+    uint64_t refused;
+};
+
+/* Where the two queues of an id stand. */
+struct place {
+    uint64_t sq_head, sq_tail, cq_head, cq_tail, phase;
+};
+
+struct seen {
+    struct place queues[QUEUES];
+};
+
+/* One side. It holds one controller. */
+struct side {
+    /* Makes the controller and its queues, over a memory that holds the entries, and leads them to where a batch can
+       begin. */
+    struct heard (*prepare)(const struct plan *plan);
+    struct heard (*run)(const struct plan *plan, uint64_t batches);
+    /* Makes a batch of TAILS or HEADS; the digest has also where each write led its queue. */
+    struct heard (*watch)(const struct plan *plan);
+    void (*look)(struct seen *seen);
+};
+
+/* The exports, plain C, and the loop that calls nothing. */
+extern const struct side side_ours, side_plain, side_none;
+
+extern uint8_t memory[MEMORY];
+
+static inline uint64_t ring_size(const struct plan *plan)
+{
+    return plan->kind == TAILS || plan->kind == HEADS ? LONG : SHORT;
+}
+
+static inline uint64_t sq_base(uint64_t size, uint64_t id)
+{
+    return 64 * size * id;
+}
+
+static inline uint64_t cq_base(uint64_t size, uint64_t id)
+{
+    return 64 * size * QUEUES + (16 * size < 4096 ? 4096 : 16 * size) * id;
+}
+
+#endif
