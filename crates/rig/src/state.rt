@@ -1,6 +1,5 @@
 // The whole controller, on words that the caller lends: they come from `bellrafter_controller_new`, and these calls alone change them.
 ghost use mathlib.Core.Path.{_≡_};
-ghost use lib.ListN.{length};
 ghost use Rattle.le.specs.Memory.{Memory};
 ghost use Rattle.controller.specs.Answers.{numberOf};
 ghost use Rattle.controller.specs.Calls.{perform, createCq, createSq, tailWrite, headWrite, start as startCall, finish as finishCall};
@@ -92,7 +91,6 @@ pub extern "C" fn bellrafter_controller_new(
     mechanism: u64,
     word: u32,
 ) -> u64
-    requires { ⌜ length (now state) ≡ 558 ⌝ }
     ensures { λ r. ⌜ (r ≡ newRefusal mechanism) × Holds (now (state .exit)) (newController mechanism word) ⌝ }
 {
     store::reset(state, mechanism, word)

@@ -6,7 +6,7 @@ use mathlib.Core.Path.{_≡_, refl, sym, ap, subst, _∙_}
 use native.Mathlib.Nat.{pos-of-ne-zero}
 use native.Mathlib.Omega.{arith}
 use lib.Dec.{lit<}
-use lib.ListN.{replicate}
+use lib.ListN.{length, replicate, length-replicate}
 use borrow.Author.Tests.{lt-ltb}
 use Rattle.rules.proofs.Tables.{passed}
 use Rattle.rules.proofs.Tests.{clash}
@@ -17,7 +17,7 @@ use Rattle.controller.specs.Calls.{Call, perform}
 use Rattle.controller.proofs.Reaches.{by-call, by-new}
 use Rattle.arbiter.specs.Arbiter.{fresh}
 use Rattle.arbiter.specs.declared.Arbiter.{Arbiter}
-use Rattle.store.specs.Held.{word, from, sqOf, cqOf, commandOf, table, held, limits, limitAt, Zeros, Sound, Holds, Reached}
+use Rattle.store.specs.Held.{word, from, sqOf, cqOf, commandOf, table, held, limits, limitAt, Sound, Holds, Reached}
 use Rattle.store.proofs.Tables.{table-same}
 use Rattle.store.proofs.Stores.{sq-from, cq-from, command-from}
 
@@ -27,6 +27,19 @@ unfolding limitAt
 limit-positive k l =
     pos-of-ne-zero
     (λ z. clash (lt-ltb k 558 l) (passed (limits k) tt z .1 .1 .1 .1 .1 .1 .1 .1 .1 .1 .1 .1 .1 .1 .1 .1 .0))
+
+-- words that are all 0
+pub record Zeros (w : List ℕ) : Type 0 where
+  pub sized : length w ≡ 558
+  pub zero : (k : ℕ) → k < 558 → word w k ≡ 0
+
+pub zeros : Zeros (replicate 558 0)
+zeros = record { sized = length-replicate {A = ℕ} 558 0; zero = λ k l. zero-at 558 k }
+  where
+    zero-at : (n k : ℕ) → word (replicate n 0) k ≡ 0
+    zero-at zero k = refl
+    zero-at (suc n) zero = refl
+    zero-at (suc n) (suc k) = zero-at n k
 
 module _ (w : List ℕ) (z : Zeros w) where
   zeros-sqs : table 16 (sqOf w) ≡ replicate 16 noSq

@@ -125,11 +125,6 @@ pub record Sound (w : List ℕ) : Type 0 where
   pub sized : length w ≡ 558
   pub narrow : (k : ℕ) → k < 558 → word w k < limitAt k
 
--- words that are all 0
-pub record Zeros (w : List ℕ) : Type 0 where
-  pub sized : length w ≡ 558
-  pub zero : (k : ℕ) → k < 558 → word w k ≡ 0
-
 -- the words hold the controller
 pub record Holds (w : List ℕ) (c : Controller) : Type 0 where
   pub sound : Sound w

@@ -2,11 +2,11 @@
 // knows where they stand; the calls see what it hands out and stores.
 ghost use mathlib.Core.Path.{_≡_};
 ghost use Prim.Native.Nat.{_+_, _%_, _≤_, _<_};
-ghost use lib.ListN.{length, set};
+ghost use lib.ListN.{set};
 ghost use Rattle.controller.specs.Doorbell.{tailMoved, headMoved, mark};
 ghost use Rattle.controller.specs.State.{outstanding, sqAt, cqAt, commandAt, withHead, withTail, sqWithRing, withSq, withCq, withCommands};
 ghost use Rattle.controller.specs.State.{freshController, newRefusal, newController};
-ghost use Rattle.store.specs.Held.{flag, ringFrom, remainderFrom, groupFrom, levelFrom, from, held, Zeros, Sound, Holds};
+ghost use Rattle.store.specs.Held.{flag, ringFrom, remainderFrom, groupFrom, levelFrom, from, held, Sound, Holds};
 use arbiter::Arbiter;
 use arbiter::Group;
 use arbiter::Level;
@@ -337,22 +337,10 @@ pub fn put_arbiter(s: &mut [u64; WORDS], a: Arbiter)
 
 // ---- a fresh controller
 
-fn clear(s: &mut [u64; WORDS])
-    requires { ⌜ length (now s) ≡ 558 ⌝ }
-    ensures { λ _. ⌜ Zeros (now (s .exit)) ⌝ }
-{
-    let mut i: usize = 0;
-    while i < WORDS {
-        s[i] = 0;
-        i += 1;
-    }
-}
-
 fn refresh(s: &mut [u64; WORDS], weighted: bool, word: u32)
-    requires { ⌜ length (now s) ≡ 558 ⌝ }
     ensures { λ _. ⌜ Holds (now (s .exit)) (freshController weighted word) ⌝ }
 {
-    clear(s);
+    *s = [0u64; WORDS];
     put_free(s, u64::MAX);
     put_arbiter(s, Arbiter::new(weighted, word));
 }
@@ -360,7 +348,6 @@ fn refresh(s: &mut [u64; WORDS], weighted: bool, word: u32)
 // Makes any words those of a fresh controller of a mechanism, 0 round robin or 1 weighted with urgent, and the Arbitration feature
 // word: 0, or the refusal number.
 pub fn reset(s: &mut [u64; WORDS], mechanism: u64, word: u32) -> u64
-    requires { ⌜ length (now s) ≡ 558 ⌝ }
     ensures { λ r. ⌜ (r ≡ newRefusal mechanism) × Holds (now (s .exit)) (newController mechanism word) ⌝ }
 {
     if 1 < mechanism {
