@@ -35,13 +35,13 @@ static const struct side plain = {plain_completion_write, plain_completion_read,
 static struct {
     uint32_t result;
     uint16_t sqhd, sqid, cid;
-    uint64_t status, tag;
+    uint64_t status, phase;
 } completions[SLOTS];
 static struct doorbell {
     uint64_t size, head, tail, value;
 } doorbells[INPUTS];
 static struct {
-    uint64_t size, head, tag;
+    uint64_t size, head, phase;
 } reader;
 static struct {
     uint64_t prp1, prp2, length, page;
@@ -92,7 +92,7 @@ static void make_completions(uint64_t slots, uint64_t bytes)
         completions[i].sqid = (uint16_t)below(16);
         completions[i].cid = (uint16_t)any_number();
         completions[i].status = below(32768);
-        completions[i].tag = below(2);
+        completions[i].phase = below(2);
     }
     for (uint64_t i = 0; i < slots * bytes; i++)
         ring[i] = (uint8_t)any_number();
@@ -115,7 +115,7 @@ static void make_ring(uint64_t size, uint64_t waiting)
 {
     reader.size = size;
     reader.head = size / 4;
-    reader.tag = 1;
+    reader.phase = 1;
     for (uint64_t n = 0; n < size; n++) {
         uint64_t slot = (reader.head + n) % size;
         uint64_t expected = slot < reader.head ? 0 : 1;
@@ -157,7 +157,7 @@ static void run_write(const struct side *side, uint64_t first, uint64_t calls)
         uint64_t i = n % SLOTS;
         sum += side->completion_write(left.entries + 16 * i, 16, completions[i].result, completions[i].sqhd,
                                       completions[i].sqid, completions[i].cid, completions[i].status,
-                                      completions[i].tag);
+                                      completions[i].phase);
     }
     left.sum = sum;
 }
@@ -169,7 +169,7 @@ static void run_read(const struct side *side, uint64_t first, uint64_t calls)
 
     for (uint64_t n = first; n < first + calls; n++) {
         c = side->completion_read(ring + 16 * (n % SLOTS), 16);
-        sum += c.refusal + c.result + c.sqhd + c.sqid + c.cid + c.status + c.tag;
+        sum += c.refusal + c.result + c.sqhd + c.sqid + c.cid + c.status + c.phase;
     }
     left.sum = sum;
     left.completion = c;
@@ -181,7 +181,7 @@ static void run_ring(const struct side *side, uint64_t first, uint64_t calls)
     uint64_t sum = 0;
 
     for (uint64_t n = first; n < first + calls; n++) {
-        w = side->ring_read(ring, sizeof ring, reader.size, reader.head, reader.tag);
+        w = side->ring_read(ring, sizeof ring, reader.size, reader.head, reader.phase);
         sum += w.refusal + w.count;
     }
     left.sum = sum;

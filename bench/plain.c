@@ -48,13 +48,13 @@ struct entry {
 };
 
 uint64_t plain_completion_write(uint8_t *entry, size_t entry_bytes, uint32_t result, uint16_t sqhd, uint16_t sqid,
-                                uint16_t cid, uint64_t status, uint64_t tag)
+                                uint16_t cid, uint64_t status, uint64_t phase)
 {
     if (status > 32767)
         return BELLRAFTER_STATUS;
     if (entry_bytes < sizeof(struct entry))
         return BELLRAFTER_BUFFER;
-    struct entry e = {result, 0, sqhd, sqid, cid, (uint16_t)(status << 1 | (tag & 1))};
+    struct entry e = {result, 0, sqhd, sqid, cid, (uint16_t)(status << 1 | (phase & 1))};
     memcpy(entry, &e, sizeof e);
     return BELLRAFTER_DONE;
 }
@@ -70,22 +70,22 @@ struct bellrafter_completion plain_completion_read(const uint8_t *entry, size_t 
         .sqid = get16(entry + 10),
         .cid = get16(entry + 12),
         .status = last >> 1,
-        .tag = last & 1,
+        .phase = last & 1,
     };
 }
 
 /* How many of the `most` entries at `entry`, from the first on, have the phase tag. */
-static uint64_t run_of(const uint8_t *entry, uint64_t most, uint64_t tag)
+static uint64_t run_of(const uint8_t *entry, uint64_t most, uint64_t phase)
 {
     uint64_t n = 0;
 
-    while (n < most && (entry[16 * n + 14] & 1) == tag)
+    while (n < most && (entry[16 * n + 14] & 1) == phase)
         n++;
     return n;
 }
 
 struct bellrafter_waiting plain_ring_read(const uint8_t *ring, size_t ring_bytes, uint64_t size, uint64_t head,
-                                          uint64_t tag)
+                                          uint64_t phase)
 {
     if (size < 2 || size > 1024)
         return (struct bellrafter_waiting){BELLRAFTER_RING_SIZE, 0};
@@ -96,10 +96,10 @@ struct bellrafter_waiting plain_ring_read(const uint8_t *ring, size_t ring_bytes
     uint64_t ahead = size - head;
     if (ahead > size - 1)
         ahead = size - 1;
-    tag &= 1;
-    uint64_t count = run_of(ring + 16 * head, ahead, tag);
+    phase &= 1;
+    uint64_t count = run_of(ring + 16 * head, ahead, phase);
     if (count == ahead)
-        count += run_of(ring, size - 1 - ahead, tag ^ 1);
+        count += run_of(ring, size - 1 - ahead, phase ^ 1);
     return (struct bellrafter_waiting){BELLRAFTER_DONE, count};
 }
 

@@ -5,10 +5,10 @@
 #include "bellrafter.h"
 
 uint64_t plain_completion_write(uint8_t *entry, size_t entry_bytes, uint32_t result, uint16_t sqhd, uint16_t sqid,
-                                uint16_t cid, uint64_t status, uint64_t tag);
+                                uint16_t cid, uint64_t status, uint64_t phase);
 struct bellrafter_completion plain_completion_read(const uint8_t *entry, size_t entry_bytes);
 struct bellrafter_waiting plain_ring_read(const uint8_t *ring, size_t ring_bytes, uint64_t size, uint64_t head,
-                                          uint64_t tag);
+                                          uint64_t phase);
 uint64_t plain_tail_check(uint64_t size, uint64_t head, uint64_t tail, uint64_t value);
 uint64_t plain_head_check(uint64_t size, uint64_t head, uint64_t tail, uint64_t value);
 struct bellrafter_pages plain_page_walk(const uint8_t *memory, size_t memory_bytes, uint64_t prp1, uint64_t prp2,

@@ -70,14 +70,14 @@
  *     bellrafter_finish(state, memory, sizeof memory, s.first, 0, 7);
  *
  *     // The host: how many wait, and what are they?
- *     uint64_t head = 0, tag = 1;              // it stands at slot 0; the first pass has tag 1
- *     struct bellrafter_waiting waiting = bellrafter_ring_read(memory, 4 * 16, 4, head, tag);
+ *     uint64_t head = 0, phase = 1;            // it stands at slot 0; the first pass has phase tag 1
+ *     struct bellrafter_waiting waiting = bellrafter_ring_read(memory, 4 * 16, 4, head, phase);
  *     for (uint64_t i = 0; i < waiting.count; i++) {
  *         struct bellrafter_completion c = bellrafter_completion_read(memory + 16 * head, 16);
  *         printf("command %04x: status %x\n", (unsigned)c.cid, (unsigned)c.status);
- *         if (++head == 4) {                   // the tag turns at the wrap
+ *         if (++head == 4) {                   // the phase tag turns at the wrap
  *             head = 0;
- *             tag = 1 - tag;
+ *             phase = 1 - phase;
  *         }
  *     }
  *     bellrafter_head_write(state, 1, head);   // released
@@ -496,7 +496,7 @@ struct bellrafter_completion {
     uint16_t sqid;
     uint16_t cid;
     uint16_t status; /* 0 to 32,767 */
-    uint32_t tag;    /* 0 or 1 */
+    uint32_t phase;  /* 0 or 1 */
 };
 
 /*
@@ -520,12 +520,12 @@ struct bellrafter_submission bellrafter_submission_read(const uint8_t *entry, si
 /*
  * Writes a completion to the first 16 bytes of `entry`; bytes past them are left as they are.
  *
- * `status` is 0 to 32,767. `tag` is the phase tag and is taken modulo 2.
+ * `status` is 0 to 32,767. `phase` is the phase tag and is taken modulo 2.
  *
  * Answers the refusal number. In order: BELLRAFTER_STATUS; BELLRAFTER_BUFFER if `entry_bytes` is under 16.
  */
 uint64_t bellrafter_completion_write(uint8_t *entry, size_t entry_bytes, uint32_t result, uint16_t sqhd,
-                                     uint16_t sqid, uint16_t cid, uint64_t status, uint64_t tag);
+                                     uint16_t sqid, uint16_t cid, uint64_t status, uint64_t phase);
 
 /*
  * Reads the completion in the first 16 bytes of `entry`. Any 16 bytes can be read.
@@ -555,16 +555,16 @@ struct bellrafter_pages {
  * Counts the completions that wait in a completion ring of `size` entries, which is the first 16 times `size` bytes
  * of `ring`; bytes past them are not looked at.
  *
- * `head` is the slot at which the host reads next, and `tag` the phase tag that a new entry has there, taken modulo 2:
- * 1 in the first pass, turning over each time the head wraps to slot 0. The reader walks forward from the head
- * while the entry's tag is the one expected, which turns at the wrap, and stops after size - 1 entries. The
+ * `head` is the slot at which the host reads next, and `phase` the phase tag that a new entry has there, modulo 2: 1 in
+ * the first pass, turning over each time the head wraps to slot 0. The reader walks forward from the head
+ * while the entry's phase tag is the one expected, which turns at the wrap, and stops after size - 1 entries. The
  * completions that wait are those slots, in that order; bellrafter_completion_read reads each.
  *
  * In order: BELLRAFTER_RING_SIZE; BELLRAFTER_RING_MEMORY if `ring_bytes` is under 16 times `size`;
  * BELLRAFTER_DOORBELL if `head` is not below `size`.
  */
 struct bellrafter_waiting bellrafter_ring_read(const uint8_t *ring, size_t ring_bytes, uint64_t size, uint64_t head,
-                                               uint64_t tag);
+                                               uint64_t phase);
 
 /*
  * Checks the value that a host writes to a submission queue's tail doorbell, for a ring of `size` entries that stands

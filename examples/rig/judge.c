@@ -71,8 +71,8 @@ static void print_entry(const char *whose, const uint8_t *entry)
 {
     struct bellrafter_completion c = bellrafter_completion_read(entry, BELLRAFTER_COMPLETION_BYTES);
 
-    printf("  %-10s result %08xh, SQHD %u, SQ %u, CID %04xh, status %04xh, tag %u  (%s)\n", whose, (unsigned)c.result,
-           (unsigned)c.sqhd, (unsigned)c.sqid, (unsigned)c.cid, (unsigned)c.status, (unsigned)c.tag,
+    printf("  %-10s result %08xh, SQHD %u, SQ %u, CID %04xh, status %04xh, phase %u  (%s)\n", whose, (unsigned)c.result,
+           (unsigned)c.sqhd, (unsigned)c.sqid, (unsigned)c.cid, (unsigned)c.status, (unsigned)c.phase,
            bellrafter_status_text(c.status));
 }
 
@@ -128,7 +128,7 @@ static bool same_ring(unsigned round)
     for (int i = 0; i < CQ_SIZE; i++) {
         struct bellrafter_cq q = bellrafter_look_cq(model, CQ);
         const uint8_t *entry = memory + CQ_BASE + BELLRAFTER_COMPLETION_BYTES * q.tail;
-        if (bellrafter_completion_read(entry, BELLRAFTER_COMPLETION_BYTES).tag != q.phase)
+        if (bellrafter_completion_read(entry, BELLRAFTER_COMPLETION_BYTES).phase != q.phase)
             break;
         if (!same_posting(round, q.tail))
             return false;
@@ -165,7 +165,7 @@ static void submit(uint64_t sq, uint8_t opc, uint64_t fuse, uint64_t slba)
     sq_tail[sq] = (sq_tail[sq] + 1) % SQ_SIZE;
 }
 
-static void ring_tail(struct cartridge *c, uint64_t sq)
+static void write_tail(struct cartridge *c, uint64_t sq)
 {
     cartridge_write_tail(c, sq, sq_tail[sq]);
     bellrafter_tail_write(model, sq, sq_tail[sq]);
@@ -209,7 +209,7 @@ static bool judge(struct cartridge *c)
                 submit(sq, 0x02, 0, round);     /* Read */
                 submit(sq, 0x05, 1, round % 3); /* Compare, which fails at SLBA 1, */
                 submit(sq, 0x01, 2, round % 3); /* and Write, fused with it */
-                ring_tail(c, sq);
+                write_tail(c, sq);
             }
         }
         /* The host is slow at first: the ring of 4 fills with 3 entries, and the rest must wait. */
@@ -307,7 +307,7 @@ static void post(struct cartridge *c, struct fetched done)
     c->unread++;
     if (++c->cq_tail == CQ_SIZE) {
         c->cq_tail = 0;
-        if (!c->phase) /* the misbehaviour: tag 1 on every pass */
+        if (!c->phase) /* the misbehaviour: phase tag 1 on every pass */
             c->cq_phase = 1 - c->cq_phase;
     }
 }

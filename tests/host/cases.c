@@ -12,7 +12,7 @@ FIELD(bellrafter_completion, sqhd, 12, 2);
 FIELD(bellrafter_completion, sqid, 14, 2);
 FIELD(bellrafter_completion, cid, 16, 2);
 FIELD(bellrafter_completion, status, 18, 2);
-FIELD(bellrafter_completion, tag, 20, 4);
+FIELD(bellrafter_completion, phase, 20, 4);
 HOLDS(completion_bytes, sizeof(struct bellrafter_completion) == 24);
 FIELD(bellrafter_waiting, refusal, 0, 8);
 FIELD(bellrafter_waiting, count, 8, 8);
@@ -32,16 +32,16 @@ static const uint8_t p6[16] = {0x44, 0x33, 0x22, 0x11, 0, 0, 0, 0, 3, 0, 1, 0, 2
 static const struct written {
     const char *what;
     size_t entry_bytes;
-    uint64_t status, tag, refusal;
+    uint64_t status, phase, refusal;
     uint8_t last[2]; /* bytes 14 and 15, if not refused */
 } written_cases[] = {
     {"write P6", 16, 0, 1, 0, {0x01, 0x00}},
     {"write P7", 16, 0x09, 0, 0, {0x12, 0x00}},
     {"write P8", 16, 0x285, 1, 0, {0x0B, 0x05}},
-    {"write top status, tag 0", 16, 32767, 0, 0, {0xFE, 0xFF}},
-    {"write top status, tag 1", 16, 32767, 1, 0, {0xFF, 0xFF}},
-    {"write tag 2 is 0", 16, 0, 2, 0, {0x00, 0x00}},
-    {"write tag 2^64 - 1 is 1", 16, 0, TOP, 0, {0x01, 0x00}},
+    {"write top status, phase tag 0", 16, 32767, 0, 0, {0xFE, 0xFF}},
+    {"write top status, phase tag 1", 16, 32767, 1, 0, {0xFF, 0xFF}},
+    {"write phase tag 2 is 0", 16, 0, 2, 0, {0x00, 0x00}},
+    {"write phase tag 2^64 - 1 is 1", 16, 0, TOP, 0, {0x01, 0x00}},
     {"write into 20 bytes", 20, 1, 0, 0, {0x02, 0x00}},
     {"write status 32,768", 16, 32768, 0, BELLRAFTER_STATUS, {0}},
     {"write status 2^64 - 1", 16, TOP, 1, BELLRAFTER_STATUS, {0}},
@@ -63,7 +63,7 @@ static void completion_written(const struct written *c)
         memcpy(wanted + GUARD, p6, 14);
         memcpy(wanted + GUARD + 14, c->last, 2);
     }
-    uint64_t refusal = bellrafter_completion_write(entry, c->entry_bytes, 0x11223344, 3, 1, 0x0102, c->status, c->tag);
+    uint64_t refusal = bellrafter_completion_write(entry, c->entry_bytes, 0x11223344, 3, 1, 0x0102, c->status, c->phase);
     compare(c->what, of_number(c->refusal), of_number(refusal), &view, 1);
 }
 
@@ -88,22 +88,22 @@ static void completion_cases(void)
 
 /* Rings. */
 
-/* Reads a ring whose tags are given as text, one digit for each slot. */
-static void tags_read(const char *tags, uint64_t head, uint64_t tag, uint64_t count)
+/* Reads a ring whose phase tags are given as text, one digit for each slot. */
+static void phases_read(const char *phases, uint64_t head, uint64_t phase, uint64_t count)
 {
     uint8_t ring[16 * 4];
-    size_t size = strlen(tags);
+    size_t size = strlen(phases);
     char what[80];
 
     memset(ring, 0xFE, sizeof ring);
     for (size_t i = 0; i < size; i++)
-        ring[16 * i + 14] |= tags[i] == '1';
-    snprintf(what, sizeof what, "ring %s, head %" PRIu64 ", tag %" PRIu64, tags, head, tag);
+        ring[16 * i + 14] |= phases[i] == '1';
+    snprintf(what, sizeof what, "ring %s, head %" PRIu64 ", phase tag %" PRIu64, phases, head, phase);
     expect(what, of_waiting((struct bellrafter_waiting){0, count}),
-           of_waiting(bellrafter_ring_read(ring, 16 * size, size, head, tag)));
+           of_waiting(bellrafter_ring_read(ring, 16 * size, size, head, phase)));
 }
 
-/* Reads a ring of zeros but for the last slot, which has tag 1. */
+/* Reads a ring of zeros but for the last slot, which has phase tag 1. */
 static void zeros_read(const char *what, size_t bytes, uint64_t size, uint64_t head, uint64_t refusal, uint64_t count)
 {
     static uint8_t ring[16 * 1025];
@@ -116,24 +116,24 @@ static void zeros_read(const char *what, size_t bytes, uint64_t size, uint64_t h
 static void ring_cases(void)
 {
     /* Two entries over three passes, one posting at a time. */
-    tags_read("00", 0, 1, 0);
-    tags_read("10", 0, 1, 1);
-    tags_read("10", 1, 1, 0);
-    tags_read("11", 1, 1, 1);
-    tags_read("11", 0, 0, 0);
-    tags_read("01", 0, 0, 1);
-    tags_read("01", 1, 0, 0);
-    tags_read("00", 1, 0, 1);
-    tags_read("00", 0, 1, 0);
-    /* At most size - 1; the tag turns at the wrap; a tag modulo 2. */
-    tags_read("1111", 0, 1, 3);
-    tags_read("0011", 2, 1, 3);
-    tags_read("0111", 2, 1, 3);
-    tags_read("1011", 2, 1, 2);
-    tags_read("1100", 2, 0, 3);
-    tags_read("1001", 3, 1, 1);
-    tags_read("1100", 0, TOP, 2);
-    tags_read("1100", 0, TOP - 1, 0);
+    phases_read("00", 0, 1, 0);
+    phases_read("10", 0, 1, 1);
+    phases_read("10", 1, 1, 0);
+    phases_read("11", 1, 1, 1);
+    phases_read("11", 0, 0, 0);
+    phases_read("01", 0, 0, 1);
+    phases_read("01", 1, 0, 0);
+    phases_read("00", 1, 0, 1);
+    phases_read("00", 0, 1, 0);
+    /* At most size - 1; the phase tag turns at the wrap; a phase tag modulo 2. */
+    phases_read("1111", 0, 1, 3);
+    phases_read("0011", 2, 1, 3);
+    phases_read("0111", 2, 1, 3);
+    phases_read("1011", 2, 1, 2);
+    phases_read("1100", 2, 0, 3);
+    phases_read("1001", 3, 1, 1);
+    phases_read("1100", 0, TOP, 2);
+    phases_read("1100", 0, TOP - 1, 0);
 
     zeros_read("ring 1,024, all but one", 16 * 1024, 1024, 0, 0, 1023);
     zeros_read("ring 1,024, from the last slot on", 16 * 1025, 1024, 1023, 0, 1023);

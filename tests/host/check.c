@@ -17,7 +17,7 @@ struct answer of_number(uint64_t refusal)
 
 struct answer of_completion(struct bellrafter_completion c)
 {
-    return (struct answer){7, {c.refusal, c.result, c.sqhd, c.sqid, c.cid, c.status, c.tag}};
+    return (struct answer){7, {c.refusal, c.result, c.sqhd, c.sqid, c.cid, c.status, c.phase}};
 }
 
 struct answer of_waiting(struct bellrafter_waiting waiting)

@@ -21,7 +21,7 @@ struct ref_cq {
 
 /*
  * A command by its tag. Commands are told apart by numbers that are never used again, so that a half knows its other
- * half also where the tag of that has long been given to a stranger; 0 is no command.
+ * half also where the tag of that has long been given to another command; 0 is no command.
  */
 struct ref_command {
     bool outstanding;

@@ -717,9 +717,9 @@ static void pair_cases(void)
            of_command(ref_look_command(&plain, 3)));
     look_at_all();
     submit_plain(1, 30);
-    want_start("a stranger with the first half's tag", (struct bellrafter_start){0, 1, 1, 1, 0, 6, 0}, M);
-    want_finish("stranger", M, 1, 0, 0, 4);
-    want_posted("the stranger's status is its own", 1, 4,
+    want_start("another command with the first half's tag", (struct bellrafter_start){0, 1, 1, 1, 0, 6, 0}, M);
+    want_finish("the other command", M, 1, 0, 0, 4);
+    want_posted("the other command's status is its own", 1, 4,
                 (struct bellrafter_completion){0, 0xDDCCBBAA, 7, 1, 30, 0, 1});
     want_finish("second half", M, 3, 0, 0, 5);
     want_posted("second half of a failed first half", 1, 5,

@@ -16,7 +16,7 @@ int use_the_header(uint64_t *state, uint8_t *memory, size_t memory_bytes)
     struct bellrafter_waiting w = bellrafter_ring_read(memory, memory_bytes, 4, 0, 1);
     struct bellrafter_completion c = bellrafter_completion_read(memory, BELLRAFTER_COMPLETION_BYTES);
     struct bellrafter_submission e = bellrafter_submission_read(memory, memory_bytes);
-    refusals += bellrafter_completion_write(memory, memory_bytes, c.result, c.sqhd, c.sqid, c.cid, c.status, c.tag);
+    refusals += bellrafter_completion_write(memory, memory_bytes, c.result, c.sqhd, c.sqid, c.cid, c.status, c.phase);
     refusals += bellrafter_head_write(state, 1, w.count) + bellrafter_tail_check(4, 0, 0, 1) +
                 bellrafter_head_check(4, 0, 1, 1);
     struct bellrafter_pages p =

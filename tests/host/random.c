@@ -15,22 +15,22 @@ static void random_entries(uint64_t calls)
         uint32_t result = (uint32_t)any_number();
         uint16_t sqhd = (uint16_t)any_number(), sqid = (uint16_t)any_number(), cid = (uint16_t)any_number();
         uint64_t status = once_in(4) ? beyond(32768) : once_in(8) ? 32767 : below(32768);
-        uint64_t tag = any_number();
+        uint64_t phase = any_number();
 
         fill_random(wanted, sizeof wanted);
         memcpy(came, wanted, sizeof came);
-        snprintf(what, sizeof what, "entry: %zu bytes, %u, %u, %u, %u, status %" PRIu64 ", tag %" PRIu64, bytes,
-                 (unsigned)result, (unsigned)sqhd, (unsigned)sqid, (unsigned)cid, status, tag);
-        uint64_t reference = ref_completion_write(wanted + start, bytes, result, sqhd, sqid, cid, status, tag);
-        uint64_t refusal = bellrafter_completion_write(came + start, bytes, result, sqhd, sqid, cid, status, tag);
+        snprintf(what, sizeof what, "entry: %zu bytes, %u, %u, %u, %u, status %" PRIu64 ", phase %" PRIu64, bytes,
+                 (unsigned)result, (unsigned)sqhd, (unsigned)sqid, (unsigned)cid, status, phase);
+        uint64_t reference = ref_completion_write(wanted + start, bytes, result, sqhd, sqid, cid, status, phase);
+        uint64_t refusal = bellrafter_completion_write(came + start, bytes, result, sqhd, sqid, cid, status, phase);
         compare(what, of_number(reference), of_number(refusal), &view, 1);
         struct bellrafter_completion c = bellrafter_completion_read(came + start, bytes);
         compare(what, of_completion(ref_completion_read(wanted + start, bytes)), of_completion(c), &view, 1);
         note("written", refusal == 0);
         note("write refusal 15", refusal == 15);
         note("write refusal 21", refusal == 21);
-        note("read, tag 0", c.refusal == 0 && c.tag == 0);
-        note("read, tag 1", c.refusal == 0 && c.tag == 1);
+        note("read, phase 0", c.refusal == 0 && c.phase == 0);
+        note("read, phase 1", c.refusal == 0 && c.phase == 1);
         note("read, bytes not written", c.refusal == 0 && refusal != 0);
         note("read refusal 21", c.refusal == 21);
     }
@@ -77,7 +77,7 @@ static void random_submissions(uint64_t calls)
     report_notes("submission_write, submission_read");
 }
 
-/* Gives each slot the tag that it has after `posted` entries. */
+/* Gives each slot the phase that it has after `posted` entries. */
 static void post(uint8_t *ring, uint64_t size, uint64_t posted)
 {
     for (uint64_t slot = 0; slot < size; slot++) {
@@ -110,7 +110,7 @@ static void random_rings(uint64_t calls)
         uint64_t posted = below(4 * size + 1);
         uint64_t waiting = below((posted < size ? posted : size - 1) + 1);
         uint64_t head = (posted - waiting) % size;
-        uint64_t tag = 1 - (posted - waiting) / size % 2 + any_number() / 2 * 2;
+        uint64_t phase = 1 - (posted - waiting) / size % 2 + any_number() / 2 * 2;
         size_t bytes = 16 * size + below(GUARD);
         bool sound = once_in(2);
 
@@ -118,15 +118,15 @@ static void random_rings(uint64_t calls)
         if (!sound) {
             wanted[GUARD + 16 * below(size) + 14] ^= once_in(2);
             head = once_in(8) ? beyond(size) : once_in(4) ? below(size) : head;
-            tag ^= once_in(4);
+            phase ^= once_in(4);
             bytes = once_in(8) ? below(16 * size) : bytes;
             size = once_in(8) ? (once_in(2) ? below(2) : beyond(1025)) : size;
         }
         memcpy(came, wanted, sizeof came);
-        snprintf(what, sizeof what, "ring: %zu bytes, size %" PRIu64 ", head %" PRIu64 ", tag %" PRIu64, bytes, size,
-                 head, tag);
-        struct bellrafter_waiting w = bellrafter_ring_read(came + GUARD, bytes, size, head, tag);
-        compare(what, of_waiting(ref_ring_read(wanted + GUARD, bytes, size, head, tag)), of_waiting(w), &view, 1);
+        snprintf(what, sizeof what, "ring: %zu bytes, size %" PRIu64 ", head %" PRIu64 ", phase %" PRIu64, bytes, size,
+                 head, phase);
+        struct bellrafter_waiting w = bellrafter_ring_read(came + GUARD, bytes, size, head, phase);
+        compare(what, of_waiting(ref_ring_read(wanted + GUARD, bytes, size, head, phase)), of_waiting(w), &view, 1);
         if (sound)
             expect(what, of_waiting((struct bellrafter_waiting){0, waiting}), of_waiting(w));
         note_ring(w, size, head);

@@ -19,7 +19,7 @@ static void set(uint8_t *bytes, int width, uint64_t value)
 }
 
 uint64_t ref_completion_write(uint8_t *entry, size_t entry_bytes, uint32_t result, uint16_t sqhd, uint16_t sqid,
-                              uint16_t cid, uint64_t status, uint64_t tag)
+                              uint16_t cid, uint64_t status, uint64_t phase)
 {
     if (status > 32767)
         return BELLRAFTER_STATUS;
@@ -30,7 +30,7 @@ uint64_t ref_completion_write(uint8_t *entry, size_t entry_bytes, uint32_t resul
     set(entry + 8, 2, sqhd);
     set(entry + 10, 2, sqid);
     set(entry + 12, 2, cid);
-    set(entry + 14, 2, 2 * status + tag % 2);
+    set(entry + 14, 2, 2 * status + phase % 2);
     return BELLRAFTER_DONE;
 }
 
@@ -44,7 +44,7 @@ struct bellrafter_completion ref_completion_read(const uint8_t *entry, size_t en
         .sqid = (uint16_t)get(entry + 10, 2),
         .cid = (uint16_t)get(entry + 12, 2),
         .status = (uint16_t)(get(entry + 14, 2) / 2),
-        .tag = entry[14] % 2,
+        .phase = entry[14] % 2,
     };
 }
 
@@ -99,7 +99,7 @@ static bool size_wrong(uint64_t size)
 }
 
 struct bellrafter_waiting ref_ring_read(const uint8_t *ring, size_t ring_bytes, uint64_t size, uint64_t head,
-                                        uint64_t tag)
+                                        uint64_t phase)
 {
     if (size_wrong(size))
         return (struct bellrafter_waiting){BELLRAFTER_RING_SIZE, 0};
@@ -108,7 +108,7 @@ struct bellrafter_waiting ref_ring_read(const uint8_t *ring, size_t ring_bytes, 
     if (head >= size)
         return (struct bellrafter_waiting){BELLRAFTER_DOORBELL, 0};
 
-    uint64_t count = 0, slot = head, expected = tag % 2;
+    uint64_t count = 0, slot = head, expected = phase % 2;
     while (count < size - 1 && ring[16 * slot + 14] % 2 == expected) {
         count++;
         slot++;

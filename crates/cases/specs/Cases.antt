@@ -13,7 +13,7 @@ use Rattle.le.specs.Le.{le, leAt}
 use Rattle.le.specs.Memory.{Memory, part, put}
 use Rattle.entry.specs.Completion.{completion, completionBytes}
 use Rattle.entry.specs.Submission.{submissionAt}
-use Rattle.ring.specs.Slots.{next, distance, turned}
+use Rattle.ring.specs.Slots.{next, distance, phaseAfter}
 use Rattle.ring.specs.Doorbell as ring
 use Rattle.prp.specs.Pages.{pageSize, pagesTouched, split, byteCounts}
 use Rattle.prp.specs.Walk.{found, after, inMemory, lastOfPage, readEntry, list, dataPages, beforeWalk, pageWalk}
@@ -96,7 +96,7 @@ Cases =
 
 pub cases : Cases
 unfolding Cases settle isSet first count maskOf someBelow takenOne takenTwo givenBack le leAt part put completionBytes submissionAt next
-    distance turned ring.validTail ring.validHead pageSize pagesTouched split byteCounts after inMemory lastOfPage readEntry list
+    distance phaseAfter ring.validTail ring.validHead pageSize pagesTouched split byteCounts after inMemory lastOfPage readEntry list
     dataPages beforeWalk pageWalk burstOf nextAfter turn choice byWeight byLevel byGroup levelTurn ready someWaits someReady toppedUp
     outstanding someRing shareByte shares outside create.createCqRefusal create.createSqRefusal create.createCq create.createSq
     doorbell.tailRefusal doorbell.tailWrite inUse verdictOne verdictPair starting.candidateAt starting.candidates starting.entryAt

@@ -33,11 +33,11 @@ pub record Queue (x : CompletionQueue) (y : BookCq) (m : Memory) : Type 0 where
   pub head-same : y .head ≡ x .ring .head
   pub phase :
       let r = x .ring in
-      Phase (r .size) (r .head) (r .tail) (x .phase) (y .tag) (part m (r .base) (16 * r .size)) (y .waiting)
+      Phase (r .size) (r .head) (r .tail) (x .phase) (y .phase) (part m (r .base) (16 * r .size)) (y .waiting)
 
 -- where the book has the reader
 abbrev pub placeOf : BookCq → Place
-placeOf y = record { head = y .head; tag = y .tag }
+placeOf y = record { head = y .head; phase = y .phase }
 
 -- and the head writes accepted at it, which leave a reader where the book has it
 pub record Account (x : CompletionQueue) (y : BookCq) (m : Memory) (vs : List ℕ) : Type 0 where

@@ -13,7 +13,7 @@ use Rattle.le.specs.Memory.{Memory, part}
 use Rattle.le.proofs.Parts.{part-length}
 use Rattle.ring.proofs.Doorbells.{valid-head}
 use Rattle.ring.proofs.Phase.{new, move}
-use Rattle.ring.specs.Reader.{tagIn}
+use Rattle.ring.specs.Reader.{phaseIn}
 use Rattle.controller.specs.declared.SubmissionQueue.{SubmissionQueue}
 use Rattle.controller.specs.declared.CompletionQueue.{CompletionQueue}
 use Rattle.controller.specs.Controller.{Controller}
@@ -101,7 +101,7 @@ module _ (q : ℕ) (c : Controller) (b : Book) (m : Memory) (vs : List ℕ) (val
   create-this size base n clear =
       let l : q < length (c .cqs) = omega (arith, n .id-low, valid .cqs-16) in
       let here : cqAt (withCq c q (newCq size base)) q ≡ newCq size base = getD-set-same (c .cqs) q (newCq size base) noCq l in
-      let zeros : (i : ℕ) → i < size → tagIn (part m base (16 * size)) i ≡ 0 = rw here at (clear (n .absent)) refl in
+      let zeros : (i : ℕ) → i < size → phaseIn (part m base (16 * size)) i ≡ 0 = rw here at (clear (n .absent)) refl in
       rw (eq-eqb q q refl)
       (world-this (n .id-low) (newCq size base) (book.newCq size) []
       (record {

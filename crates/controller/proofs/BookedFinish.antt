@@ -83,7 +83,7 @@ module _ (ks : List Command) (second status : ℕ) where
 module _ (q : ℕ) {c : Controller} (b : Book) (m : Memory) (vs : List ℕ) (r : Reachable c) (w : World q c b m vs)
     (inside : outside c (length m) ≡ false) (e : Completion) (within : Within e) where
   abbrev postedBook : ℕ → BookCq
-  postedBook k = let y = b .cqs k in record { size = y .size; head = y .head; tag = y .tag; waiting = y .waiting ++ (e ∷ []) }
+  postedBook k = let y = b .cqs k in record { size = y .size; head = y .head; phase = y .phase; waiting = y .waiting ++ (e ∷ []) }
 
   abbrev Posted : ℕ → Type 0
   Posted k =

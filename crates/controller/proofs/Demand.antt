@@ -10,7 +10,7 @@ use Rattle.rules.proofs.Tests.{in-range}
 use Rattle.rules.proofs.Tables.{settle-accepted}
 use Rattle.le.specs.Memory.{Memory, Bytes}
 use Rattle.ring.specs.Reader.{readSlots, found, readerRefusal, ringRead}
-use Rattle.ring.proofs.Phase.{counts, finds, reader-tag-in}
+use Rattle.ring.proofs.Phase.{counts, finds, reader-phase-in}
 use Rattle.ring.specs.declared.reader.Waiting.the-variants.{Count, Refused}
 use Rattle.controller.specs.Controller.{Controller}
 use Rattle.controller.specs.State.{cqAt, freshController}
@@ -20,7 +20,7 @@ use Rattle.controller.specs.Steps.{Given, steps, final}
 use Rattle.controller.specs.Valid.{RingOk}
 use Rattle.controller.specs.Book.{Book, empty}
 use Rattle.controller.specs.Demand.{booked, headsOn, heads, reader, Cleared, Clean, Typed, History, ringBytes, sizeOf, headWrites}
-use Rattle.controller.specs.Demand.{unreleased, bookHead, bookTag}
+use Rattle.controller.specs.Demand.{unreleased, bookHead, bookPhase}
 use Rattle.controller.proofs.Made.{takes-one, takes-pair, finishes, Made, refuses, marks, creates-cq, creates-sq, moves-tail}
 use Rattle.controller.proofs.Made.{moves-head, commands, made}
 use Rattle.controller.proofs.Steps.{reached}
@@ -88,11 +88,11 @@ module _ (h : History) where
       rw (size, whole, queue .head-same, head)
 
   -- "The reader, given the book's head and phase tag, answers how many wait; its slots read as these in order, all five fields equal."
-  pub demand3-count : ringRead (ringBytes h) (sizeOf h) (bookHead h) (bookTag h) ≡ Count (length (unreleased h))
+  pub demand3-count : ringRead (ringBytes h) (sizeOf h) (bookHead h) (bookPhase h) ≡ Count (length (unreleased h))
   unfolding ringRead
   demand3-count =
       settle-accepted _ Refused _ accepts
-      ∙ ap Count (rw (mod-eq-of-lt (reader-tag-in (queue .phase)), queue .head-same) (counts (queue .phase)))
+      ∙ ap Count (rw (mod-eq-of-lt (reader-phase-in (queue .phase)), queue .head-same) (counts (queue .phase)))
 
   pub demand3-slots : readSlots (length (unreleased h)) (ringBytes h) (sizeOf h) (bookHead h) ≡ unreleased h
   demand3-slots = rw (queue .head-same) (queue .phase .slots)

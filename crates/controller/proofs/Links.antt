@@ -196,7 +196,7 @@ module _ {c : Controller} (r : Reachable c) where
   pub first-half : (u : ℕ) → outstanding (c .free) u ≡ true → (commandAt c u .first ≡ 0 → ⊥) → (t : ℕ) × Halves (c .commands) (c .free) t u
   first-half u o d = let t = commandAt c u .first - 1 in (t, linked r u o .up t (omega arith))
 
-  -- a tag that a stranger may take, since it is not outstanding, is named by nobody
+  -- a tag that another command may take, since it is not outstanding, is named by nobody
   pub unnamed : (t u : ℕ) → outstanding (c .free) t ≡ false → outstanding (c .free) u ≡ true → commandAt c u .first ≡ t + 1 → ⊥
   unnamed t u o p e = clash (linked r u p .up t e .first-out) o
 

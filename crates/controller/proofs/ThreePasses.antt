@@ -14,9 +14,9 @@ use Rattle.le.specs.Le.{le, leAt}
 use Rattle.le.specs.Memory.{Memory, part, put, Bytes}
 use Rattle.entry.specs.Completion.{completion, completionBytes, completionAt, phaseTag}
 use Rattle.entry.specs.Submission.{submissionAt}
-use Rattle.ring.specs.Slots.{next, distance, turned}
+use Rattle.ring.specs.Slots.{next, distance, phaseAfter}
 use Rattle.ring.specs.Doorbell as ring
-use Rattle.ring.specs.Reader.{slotIn, tagIn, readCount, readSlots, found}
+use Rattle.ring.specs.Reader.{slotIn, phaseIn, readCount, readSlots, found}
 use Rattle.arbiter.specs.Turns as turns
 use Rattle.arbiter.specs.Arbiter as arbiter
 use Rattle.arbiter.specs.Word as word
@@ -83,8 +83,8 @@ pub bytes : Bytes memory
 unfolding memory
 bytes = bytes-append (replicate 4096 0) (entries (10 ∷ 11 ∷ 12 ∷ 13 ∷ [])) (bytes-zeros 4096) (entries-bytes (10 ∷ 11 ∷ 12 ∷ 13 ∷ []))
 
-pub clear : (i : ℕ) → i < 2 → tagIn (part memory 0 (16 * 2)) i ≡ 0
-unfolding memory tagIn slotIn part phaseTag leAt
+pub clear : (i : ℕ) → i < 2 → phaseIn (part memory 0 (16 * 2)) i ≡ 0
+unfolding memory phaseIn slotIn part phaseTag leAt
 clear zero h = refl
 clear (suc zero) h = refl
 clear (suc (suc i)) h = absurd (omega arith)
@@ -100,13 +100,13 @@ pub three-passes : (answers (freshController false 0) memory (createCq 0 2 0 ∷
     × (ringBytes example ≡ completionBytes (completion 83 3 0 12 11) 0 ++ completionBytes (completion 82 2 0 11 10) 1)
     × (reader (ringBytes example) (sizeOf example) (headWrites example) ≡ completion 83 3 0 12 11 ∷ [])
 unfolding memory calls undisturbed example settle isSet first maskOf someBelow takenOne givenBack le leAt part put completionBytes
-    submissionAt next distance turned ring.validTail ring.validHead outstanding someRing shareByte shares outside create.createCqRefusal
+    submissionAt next distance phaseAfter ring.validTail ring.validHead outstanding someRing shareByte shares outside create.createCqRefusal
     create.createSqRefusal create.createCq create.createSq doorbell.tailRefusal doorbell.tailWrite doorbell.headRefusal
     doorbell.headWrite inUse
     verdictOne starting.candidateAt starting.candidates starting.entryAt starting.isPair starting.oneTaken
     starting.takeOne starting.start finishing.full finishing.finishRefusal finishing.statusOf finishing.released finishing.unlinked
     finishing.posted finishing.finishedController finishing.finish arbiter.choice arbiter.byGroup turns.turn turns.nextAfter
-    word.burstOf reader found readCount readSlots slotIn tagIn completionAt phaseTag
+    word.burstOf reader found readCount readSlots slotIn phaseIn completionAt phaseTag
 three-passes = (refl, refl, refl, refl)
 
 -- so that alone, by demand 3, was posted and is not yet released

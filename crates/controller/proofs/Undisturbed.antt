@@ -16,7 +16,7 @@ use Rattle.le.specs.Le.{le}
 use Rattle.le.specs.Memory.{Memory, part, put, Bytes}
 use Rattle.entry.specs.Completion.{completionBytes}
 use Rattle.entry.specs.declared.completion.Completion.{Completion}
-use Rattle.ring.specs.Reader.{tagIn}
+use Rattle.ring.specs.Reader.{phaseIn}
 use Rattle.controller.specs.Controller.{Controller}
 use Rattle.controller.specs.State.{noCq, cqAt, withCq, freshController}
 use Rattle.controller.specs.Answers.{done, Outcome, outcome, refusing}
@@ -114,7 +114,7 @@ module _ (q : ℕ) where
 
 module _ (weighted : Bool) (word q size base : ℕ) (m : Memory) (bytes : Bytes m)
     (creates : createCqRefusal (freshController weighted word) (length m) q size base ≡ 0)
-    (clear : (i : ℕ) → i < size → tagIn (part m base (16 * size)) i ≡ 0)
+    (clear : (i : ℕ) → i < size → phaseIn (part m base (16 * size)) i ≡ 0)
     (calls : List Call) (typed : narrow calls ≡ true) where
   abbrev c : Controller
   c = freshController weighted word

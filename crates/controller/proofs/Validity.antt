@@ -14,7 +14,7 @@ use Rattle.bits.specs.Tags.{givenBack}
 use Rattle.bits.proofs.Bits.{is-set, set-suc}
 use Rattle.bits.proofs.Tags.{OneTaken, back-fits}
 use Rattle.le.specs.Memory.{Memory}
-use Rattle.ring.specs.Slots.{turned}
+use Rattle.ring.specs.Slots.{phaseAfter}
 use Rattle.ring.proofs.Steps.{next-below}
 use Rattle.ring.proofs.Doorbells.{valid-tail, valid-head}
 use Rattle.arbiter.specs.declared.Arbiter.{Arbiter}
@@ -188,9 +188,9 @@ tail-ok r v h k = record { low = k .low; high = k .high; head-below = k .head-be
 sq-moved : {c : Controller} (q : SubmissionQueue) (r : Ring) → SqFits c q → r .exists ≡ true → RingOk r → SqFits c (sqWithRing q r)
 sq-moved q r f e k = record { here = e; ring = k; cq-here = f .cq-here; cq-low = f .cq-low; class-low = f .class-low }
 
-turned-low : (size p tag : ℕ) → tag ≤ 1 → turned size p tag ≤ 1
-unfolding turned
-turned-low size p tag h = pick-cases (λ n. n ≤ 1) (eqb (p + 1) size) _ _ (λ e. omega arith) (λ e. h)
+after-low : (size p phase : ℕ) → phase ≤ 1 → phaseAfter size p phase ≤ 1
+unfolding phaseAfter
+after-low size p phase h = pick-cases (λ n. n ≤ 1) (eqb (p + 1) size) _ _ (λ e. omega arith) (λ e. h)
 
 posted-fits : (q : CompletionQueue) → CqFits q → CqFits (posted q)
 unfolding posted
@@ -198,7 +198,7 @@ posted-fits q f =
     record {
       here = f .here;
       ring = tail-ok (q .ring) _ (next-below (q .ring .size) (q .ring .tail) (omega (arith, f .ring .low))) (f .ring);
-      phase-low = turned-low _ _ _ (f .phase-low);
+      phase-low = after-low _ _ _ (f .phase-low);
     }
 
 -- ---- starting

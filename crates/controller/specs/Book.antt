@@ -22,7 +22,7 @@ pub record BookSq : Type 0 where
 pub record BookCq : Type 0 where
   pub size : ℕ
   pub head : ℕ
-  pub tag : ℕ
+  pub phase : ℕ
   pub waiting : List Completion
 
 -- `second` is the second half's tag plus 1, and 0 for none
@@ -55,7 +55,7 @@ abbrev pub newSq : ℕ → ℕ → ℕ → BookSq
 newSq size base cq = record { cq = cq; base = base; size = size; head = 0 }
 
 abbrev pub newCq : ℕ → BookCq
-newCq size = record { size = size; head = 0; tag = 1; waiting = [] }
+newCq size = record { size = size; head = 0; phase = 1; waiting = [] }
 
 abbrev pub empty : Book
 empty = record { sqs = λ i. newSq 0 0 0; cqs = λ i. newCq 0; commands = λ t. record { sq = 0; cid = 0; verdict = 0; second = 0 } }
@@ -99,7 +99,7 @@ failSecond b second status =
 -- "result, SQ head as SQHD, SQ id, CID and status .. wait last in that SQ's CQ"
 abbrev pub waits : Book → ℕ → Completion → Book
 waits b id e =
-    let y = b .cqs id in withCq b id (record { size = y .size; head = y .head; tag = y .tag; waiting = y .waiting ++ (e ∷ []) })
+    let y = b .cqs id in withCq b id (record { size = y .size; head = y .head; phase = y .phase; waiting = y .waiting ++ (e ∷ []) })
 
 abbrev pub finishBook : Book → ℕ → ℕ → ℕ → Book
 finishBook b tag given result =
@@ -114,7 +114,7 @@ headBook y v =
     record {
       size = y .size;
       head = v;
-      tag = pick (ltb v (y .head)) (1 - y .tag) (y .tag);
+      phase = pick (ltb v (y .head)) (1 - y .phase) (y .phase);
       waiting = drop (distance (y .size) (y .head) v) (y .waiting);
     }
 

@@ -7,7 +7,7 @@ use lib.Dec.{eqb, ltb}
 use Rattle.rules.specs.Rules.{pick}
 use Rattle.le.specs.Memory.{Memory, part, Bytes}
 use Rattle.entry.specs.declared.completion.Completion.{Completion}
-use Rattle.ring.specs.Reader.{tagIn, found}
+use Rattle.ring.specs.Reader.{phaseIn, found}
 use Rattle.controller.specs.Controller.{Controller}
 use Rattle.controller.specs.State.{cqAt, freshController}
 use Rattle.controller.specs.Answers.{Answer, unlessRefused}
@@ -35,18 +35,18 @@ headsOn q vs call a = unlessRefused a vs (headsIn q vs call)
 abbrev pub heads : ℕ → Controller → List Given → List ℕ
 heads q c gs = foldl (λ vs s. headsOn q vs (s .given .call) (s .outcome .answer)) [] (steps c gs)
 
--- where a reader stands, and the tag that it expects there
+-- where a reader stands, and the phase tag that it expects there
 pub record Place : Type 0 where
   pub head : ℕ
-  pub tag : ℕ
+  pub phase : ℕ
 
--- it stands where the last accepted head write left it, and its tag turned at each that went down
+-- it stands where the last accepted head write left it, and its phase tag turned at each that went down
 abbrev pub standing : List ℕ → Place
-standing = foldl (λ p v. record { head = v; tag = pick (ltb v (p .head)) (1 - p .tag) (p .tag) }) (record { head = 0; tag = 1 })
+standing = foldl (λ p v. record { head = v; phase = pick (ltb v (p .head)) (1 - p .phase) (p .phase) }) (record { head = 0; phase = 1 })
 
 -- what a reader finds who has only the ring's bytes, its size and the accepted head writes
 unfoldable pub reader : List ℕ → ℕ → List ℕ → List Completion
-reader ring size vs = found ring size (standing vs .head) (standing vs .tag)
+reader ring size vs = found ring size (standing vs .head) (standing vs .phase)
 
 -- the bytes of completion queue q's ring
 abbrev pub ringOf : Controller → ℕ → Memory → List ℕ
@@ -60,7 +60,7 @@ Kept c q before now = cqAt c q .ring .exists ≡ true → ringOf c q now ≡ rin
 abbrev pub Cleared : ℕ → Memory → Controller → Controller → Type 0
 Cleared q m c c′ =
     cqAt c q .ring .exists ≡ false → cqAt c′ q .ring .exists ≡ true
-    → (i : ℕ) → i < cqAt c′ q .ring .size → tagIn (ringOf c′ q m) i ≡ 0
+    → (i : ℕ) → i < cqAt c′ q .ring .size → phaseIn (ringOf c′ q m) i ≡ 0
 
 -- The premise: every phase tag of q's ring is 0 at its creation, and from then on nobody but the controller writes there. `left` is
 -- the memory as the last call left it, `seen` as the reader sees it.
@@ -108,5 +108,5 @@ module _ (h : History) where
   abbrev pub bookHead : ℕ
   bookHead = booked fresh empty (h .calls) .cqs (h .q) .head
 
-  abbrev pub bookTag : ℕ
-  bookTag = booked fresh empty (h .calls) .cqs (h .q) .tag
+  abbrev pub bookPhase : ℕ
+  bookPhase = booked fresh empty (h .calls) .cqs (h .q) .phase

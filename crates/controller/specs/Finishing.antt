@@ -9,7 +9,7 @@ use Rattle.bits.specs.Tags.{givenBack}
 use Rattle.le.specs.Memory.{Memory, put}
 use Rattle.entry.specs.Completion.{completion, completionBytes}
 use Rattle.entry.specs.declared.completion.Completion.{Completion}
-use Rattle.ring.specs.Slots.{next, distance, turned}
+use Rattle.ring.specs.Slots.{next, distance, phaseAfter}
 use Rattle.controller.specs.declared.Ring.{Ring}
 use Rattle.controller.specs.declared.CompletionQueue.{CompletionQueue}
 use Rattle.controller.specs.declared.Command.{Command}
@@ -64,7 +64,8 @@ unlinked ks second status =
 -- "the tail moves by one", and the phase tag "turns over at each wrap"
 unfoldable pub posted : CompletionQueue → CompletionQueue
 posted q =
-    record { ring = withTail (q .ring) (next (q .ring .size) (q .ring .tail)); phase = turned (q .ring .size) (q .ring .tail) (q .phase) }
+    let r = q .ring in
+    record { ring = withTail r (next (r .size) (r .tail)); phase = phaseAfter (r .size) (r .tail) (q .phase) }
 
 -- the controller once a tag's command has posted status: "the tag is freed"
 unfoldable pub finishedController : Controller → ℕ → ℕ → Controller

@@ -9,6 +9,8 @@ pub struct Ring {
     pub exists: bool,
 }
 
+// `marked` is document 01's term: a tail value was refused with 10, and the queue takes no more tail writes and starts no more
+// commands. `cq` is the completion queue that it posts to.
 pub struct SubmissionQueue {
     pub ring: Ring,
     pub marked: bool,
@@ -22,8 +24,8 @@ pub struct CompletionQueue {
     pub phase: u8,
 }
 
-// A command that was started. `first` is its first half's tag plus 1 while that is outstanding, `second` its second half's tag
-// plus 1; 0 is none.
+// A command that was started. `verdict` is document 01's term: the status that the start has decided on and the finish posts, and 0
+// where none is. `first` is its first half's tag plus 1 while that is outstanding, `second` its second half's tag plus 1; 0 is none.
 pub struct Command {
     pub sq: u8,
     pub cid: u16,

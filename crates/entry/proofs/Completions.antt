@@ -24,15 +24,15 @@ pub record Within (e : Completion) : Type 0 where
   pub cid : e .cid < 2 ^ 16
   pub status : e .status ≤ 32767
 
-pub completion-length : (e : Completion) (tag : ℕ) → length (completionBytes e tag) ≡ 16
+pub completion-length : (e : Completion) (phase : ℕ) → length (completionBytes e phase) ≡ 16
 unfolding completionBytes le
-completion-length e tag = refl
+completion-length e phase = refl
 
-module _ (e : Completion) (tag : ℕ) (rest : List ℕ) (w : Within e) where
+module _ (e : Completion) (phase : ℕ) (rest : List ℕ) (w : Within e) where
   abbrev bytes : List ℕ
-  bytes = completionBytes e tag ++ rest
+  bytes = completionBytes e phase ++ rest
 
-  last : leAt 2 bytes 14 ≡ 2 * e .status + tag % 2
+  last : leAt 2 bytes 14 ≡ 2 * e .status + phase % 2
   unfolding completionBytes le
   last = leAt-field 2 _ 14 bytes rest refl (omega (arith, w .status))
 
@@ -47,27 +47,27 @@ module _ (e : Completion) (tag : ℕ) (rest : List ℕ) (w : Within e) where
       let status : leAt 2 bytes 14 / 2 ≡ e .status = omega (arith, last) in
       rw (result, sqhd, sqid, cid, status)
 
-  pub tag-back : phaseTag bytes ≡ tag % 2
+  pub phase-back : phaseTag bytes ≡ phase % 2
   unfolding phaseTag
-  tag-back = omega (arith, last)
+  phase-back = omega (arith, last)
 
 -- the reader finds what the writer wrote
-pub completion-read : (b : List ℕ) (e : Completion) (tag : ℕ) → Within e → 16 ≤ length b
-    → completionRead (written b e tag) ≡ Entry e (tag % 2)
+pub completion-read : (b : List ℕ) (e : Completion) (phase : ℕ) → Within e → 16 ≤ length b
+    → completionRead (written b e phase) ≡ Entry e (phase % 2)
 unfolding completionRead written writeRefusal settle put
-completion-read b e tag w h =
+completion-read b e phase w h =
     let small : ltb 32767 (e .status) ≡ false = le-ltb 32767 (e .status) (w .status) in
     let room : ltb (length b) 16 ≡ false = le-ltb (length b) 16 h in
-    let fits : 0 + length (completionBytes e tag) ≤ length b = omega (arith, completion-length e tag) in
-    let long : ltb (length (put b 0 (completionBytes e tag))) 16 ≡ false = le-ltb (length (put b 0 (completionBytes e tag))) 16
-    (omega (arith, put-length b 0 (completionBytes e tag) fits)) in
+    let fits : 0 + length (completionBytes e phase) ≤ length b = omega (arith, completion-length e phase) in
+    let long : ltb (length (put b 0 (completionBytes e phase))) 16 ≡ false = le-ltb (length (put b 0 (completionBytes e phase))) 16
+    (omega (arith, put-length b 0 (completionBytes e phase) fits)) in
     rw (
       small,
       room,
       long,
-      completion-back e tag (drop (0 + length (completionBytes e tag)) b) w,
-      tag-back e tag
-          (drop (0 + length (completionBytes e tag)) b) w,
+      completion-back e phase (drop (0 + length (completionBytes e phase)) b) w,
+      phase-back e phase
+          (drop (0 + length (completionBytes e phase)) b) w,
     )
 
 -- an entry whose reserved bytes are 0 is written again as it was read

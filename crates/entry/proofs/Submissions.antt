@@ -26,7 +26,7 @@ pub record Within (e : Submission) : Type 0 where
   pub prp2 : e .prp2 < 2 ^ 64
   pub slba : e .slba < 2 ^ 64
   pub nlb : e .nlb < 2 ^ 16
-  pub cdw12 : e .cdw12 < 2 ^ 16
+  pub «cdw12_upper» : e .«cdw12_upper» < 2 ^ 16
   pub cdw13 : e .cdw13 < 2 ^ 32
   pub cdw14 : e .cdw14 < 2 ^ 32
   pub cdw15 : e .cdw15 < 2 ^ 32
@@ -45,7 +45,7 @@ reduced e =
       prp2 = e .prp2;
       slba = e .slba;
       nlb = e .nlb;
-      cdw12 = e .cdw12;
+      «cdw12_upper» = e .«cdw12_upper»;
       cdw13 = e .cdw13;
       cdw14 = e .cdw14;
       cdw15 = e .cdw15;
@@ -74,11 +74,11 @@ module _ (e : Submission) (rest : List ℕ) (w : Within e) where
       let prp2 : leAt 8 bytes 32 ≡ e .prp2 = leAt-field 8 _ 32 bytes _ refl (w .prp2) in
       let slba : leAt 8 bytes 40 ≡ e .slba = leAt-field 8 _ 40 bytes _ refl (w .slba) in
       let nlb : leAt 2 bytes 48 ≡ e .nlb = leAt-field 2 _ 48 bytes _ refl (w .nlb) in
-      let cdw12 : leAt 2 bytes 50 ≡ e .cdw12 = leAt-field 2 _ 50 bytes _ refl (w .cdw12) in
+      let «cdw12_upper» : leAt 2 bytes 50 ≡ e .«cdw12_upper» = leAt-field 2 _ 50 bytes _ refl (w .«cdw12_upper») in
       let cdw13 : leAt 4 bytes 52 ≡ e .cdw13 = leAt-field 4 _ 52 bytes _ refl (w .cdw13) in
       let cdw14 : leAt 4 bytes 56 ≡ e .cdw14 = leAt-field 4 _ 56 bytes _ refl (w .cdw14) in
       let cdw15 : leAt 4 bytes 60 ≡ e .cdw15 = leAt-field 4 _ 60 bytes rest refl (w .cdw15) in
-      rw (fuse, psdt, opc, cid, nsid, mptr, prp1, prp2, slba, nlb, cdw12, cdw13, cdw14, cdw15)
+      rw (fuse, psdt, opc, cid, nsid, mptr, prp1, prp2, slba, nlb, «cdw12_upper», cdw13, cdw14, cdw15)
 
 -- the reader finds what the writer wrote
 pub submission-read : (b : List ℕ) (e : Submission) → Within e → 64 ≤ length b → submissionRead (written b e) ≡ Entry (reduced e)

@@ -16,8 +16,8 @@ completion result sqhd sqid cid status = record { result = result; sqhd = sqhd; 
 -- "0 to 3 the command's result; 4 to 7 zero; 8 to 9 SQHD; 10 to 11 SQ id; 12 to 13 CID; 14 to 15 twice the 15-bit status plus the
 -- phase tag", a tag being "taken .. modulo 2"
 unfoldable pub completionBytes : Completion → ℕ → List ℕ
-completionBytes e tag =
-    le 4 (e .result) ++ le 4 0 ++ le 2 (e .sqhd) ++ le 2 (e .sqid) ++ le 2 (e .cid) ++ le 2 (2 * e .status + tag % 2)
+completionBytes e phase =
+    le 4 (e .result) ++ le 4 0 ++ le 2 (e .sqhd) ++ le 2 (e .sqid) ++ le 2 (e .cid) ++ le 2 (2 * e .status + phase % 2)
 
 -- the completion in the first 16 bytes of b, and its phase tag
 unfoldable pub completionAt : List ℕ → Completion
@@ -32,7 +32,12 @@ writeRefusal n status = firstMatch ((ltb 32767 status, 15) ∷ (ltb n 16, 21) �
 
 -- the bytes that the writer leaves
 unfoldable pub written : List ℕ → Completion → ℕ → List ℕ
-written b e tag = settle (writeRefusal (length b) (e .status)) (λ n. b) (put b 0 (completionBytes e tag))
+written b e phase = settle (writeRefusal (length b) (e .status)) (λ n. b) (put b 0 (completionBytes e phase))
+
+-- document 01's number and values for each answer of the reader: 0, the fields and the phase tag, or the refusal number and zeros
+abbrev pub completionAnswer : CompletionRead → ℕ × Completion × ℕ
+completionAnswer (Entry e phase) = (0, e, phase)
+completionAnswer (Refused n) = (n, completion 0 0 0 0 0, 0)
 
 -- the reader's answer
 unfoldable pub completionRead : List ℕ → CompletionRead

@@ -20,7 +20,7 @@ unfoldable pub submissionBytes : Submission → List ℕ
 submissionBytes e =
     le 1 (e .opc) ++ le 1 (flags e) ++ le 2 (e .cid) ++ le 4 (e .nsid) ++ le 8 0
     ++ le 8 (e .mptr) ++ le 8 (e .prp1) ++ le 8 (e .prp2) ++ le 8 (e .slba)
-    ++ le 2 (e .nlb) ++ le 2 (e .cdw12) ++ le 4 (e .cdw13) ++ le 4 (e .cdw14) ++ le 4 (e .cdw15)
+    ++ le 2 (e .nlb) ++ le 2 (e .«cdw12_upper») ++ le 4 (e .cdw13) ++ le 4 (e .cdw14) ++ le 4 (e .cdw15)
 
 -- the entry in the first 64 bytes of b
 unfoldable pub submissionAt : List ℕ → Submission
@@ -36,7 +36,7 @@ submissionAt b =
       prp2 = leAt 8 b 32;
       slba = leAt 8 b 40;
       nlb = leAt 2 b 48;
-      cdw12 = leAt 2 b 50;
+      «cdw12_upper» = leAt 2 b 50;
       cdw13 = leAt 4 b 52;
       cdw14 = leAt 4 b 56;
       cdw15 = leAt 4 b 60;
@@ -64,7 +64,7 @@ noSubmission =
       prp2 = 0;
       slba = 0;
       nlb = 0;
-      cdw12 = 0;
+      «cdw12_upper» = 0;
       cdw13 = 0;
       cdw14 = 0;
       cdw15 = 0;
@@ -74,9 +74,6 @@ abbrev pub submissionAnswer : SubmissionRead → ℕ × Submission
 submissionAnswer (Entry e) = (0, e)
 submissionAnswer (Refused n) = (n, noSubmission)
 
--- the reader's answer, in these and as it stands
-unfoldable pub submissionNumbers : List ℕ → ℕ × Submission
-submissionNumbers b = settle (firstMatch ((ltb (length b) 64, 21) ∷ [])) (λ n. (n, noSubmission)) (0, submissionAt b)
-
+-- the reader's answer
 unfoldable pub submissionRead : List ℕ → SubmissionRead
 submissionRead b = settle (firstMatch ((ltb (length b) 64, 21) ∷ [])) Refused (Entry (submissionAt b))

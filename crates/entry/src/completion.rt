@@ -3,7 +3,7 @@ ghost use mathlib.Core.Path.{_≡_};
 ghost use Prim.Native.Nat.{_≤_};
 ghost use lib.ListN.{length};
 ghost use Rattle.le.specs.Memory.{put};
-ghost use Rattle.entry.specs.Completion.{completion, completionBytes, writeRefusal, written, completionRead};
+ghost use Rattle.entry.specs.Completion.{completion, completionBytes, writeRefusal, written, completionAnswer, completionRead};
 
 // What a completion tells of its command. The phase tag beside it in an entry is the ring's.
 pub struct Completion {
@@ -21,16 +21,16 @@ pub enum CompletionRead {
 }
 
 // Stores the 16 bytes of an entry.
-fn store(buf: &mut [u8], result: u32, sqhd: u16, sqid: u16, cid: u16, status: u64, tag: u64)
+fn store(buf: &mut [u8], result: u32, sqhd: u16, sqid: u16, cid: u16, status: u64, phase: u64)
     requires { ⌜ (16 ≤ length (now buf)) × (status ≤ 32767) ⌝ }
-    ensures { λ _. ⌜ now (buf .exit) ≡ put (now (buf .entry)) 0 (completionBytes (completion result sqhd sqid cid status) tag) ⌝ }
+    ensures { λ _. ⌜ now (buf .exit) ≡ put (now (buf .entry)) 0 (completionBytes (completion result sqhd sqid cid status) phase) ⌝ }
 {
     le::put32(buf, 0, result as u64);
     le::put32(buf, 4, 0);
     le::put16(buf, 8, sqhd as u64);
     le::put16(buf, 10, sqid as u64);
     le::put16(buf, 12, cid as u64);
-    le::put16(buf, 14, 2 * status + tag % 2);
+    le::put16(buf, 14, 2 * status + phase % 2);
 }
 
 // Writes an entry into the first 16 bytes of `buf`: 0, or the refusal number.
@@ -41,10 +41,10 @@ pub fn write(
     sqid: u16,
     cid: u16,
     status: u64,
-    tag: u64,
+    phase: u64,
 ) -> u64
     ensures { λ r. ⌜ r ≡ writeRefusal (length (now (buf .entry))) status ⌝ }
-    ensures { λ _. ⌜ now (buf .exit) ≡ written (now (buf .entry)) (completion result sqhd sqid cid status) tag ⌝ }
+    ensures { λ _. ⌜ now (buf .exit) ≡ written (now (buf .entry)) (completion result sqhd sqid cid status) phase ⌝ }
 {
     if 32767 < status {
         return 15;
@@ -52,13 +52,14 @@ pub fn write(
     if buf.len() < 16 {
         return 21;
     }
-    store(buf, result, sqhd, sqid, cid, status, tag);
+    store(buf, result, sqhd, sqid, cid, status, phase);
     0
 }
 
 // Reads the entry in the first 16 bytes of `buf`.
 pub fn read(buf: &[u8]) -> CompletionRead
     ensures { λ r. ⌜ r ≡ completionRead (now (buf .entry)) ⌝ }
+    ensures { λ r. ⌜ completionAnswer r ≡ completionAnswer (completionRead (now (buf .entry))) ⌝ }
 {
     if buf.len() < 16 {
         return CompletionRead::Refused(21);

@@ -6,9 +6,9 @@ ghost use lib.ListN.{length};
 ghost use lib.Seq.{sets};
 ghost use Rattle.le.specs.Le.{le};
 ghost use Rattle.le.specs.Memory.{put};
-ghost use Rattle.entry.specs.Submission.{submissionBytes, writeRefusal, written, submissionRead, submissionAnswer, submissionNumbers};
+ghost use Rattle.entry.specs.Submission.{submissionBytes, writeRefusal, written, submissionRead, submissionAnswer};
 
-// The fields of an entry. `cdw12` is the upper half of CDW12, bytes 50 to 51; NLB is the lower.
+// The fields of an entry. `cdw12_upper` is the upper half of CDW12, bytes 50 to 51; NLB is the lower.
 pub struct Submission {
     pub opc: u8,
     pub fuse: u64,
@@ -20,7 +20,7 @@ pub struct Submission {
     pub prp2: u64,
     pub slba: u64,
     pub nlb: u16,
-    pub cdw12: u16,
+    pub cdw12_upper: u16,
     pub cdw13: u32,
     pub cdw14: u32,
     pub cdw15: u32,
@@ -56,12 +56,13 @@ fn store_pointers(buf: &mut [u8], mptr: u64, prp1: u64, prp2: u64, slba: u64)
 }
 
 // Stores bytes 48 to 63: NLB and the rest of CDW12 to CDW15.
-fn store_dwords(buf: &mut [u8], nlb: u16, cdw12: u16, cdw13: u32, cdw14: u32, cdw15: u32)
+fn store_dwords(buf: &mut [u8], nlb: u16, cdw12_upper: u16, cdw13: u32, cdw14: u32, cdw15: u32)
     requires { ⌜ 64 ≤ length (now buf) ⌝ }
-    ensures { λ _. ⌜ now (buf .exit) ≡ sets (now (buf .entry)) 48 (le 2 nlb ++ le 2 cdw12 ++ le 4 cdw13 ++ le 4 cdw14 ++ le 4 cdw15) ⌝ }
+    ensures { λ _.
+        ⌜ now (buf .exit) ≡ sets (now (buf .entry)) 48 (le 2 nlb ++ le 2 «cdw12_upper» ++ le 4 cdw13 ++ le 4 cdw14 ++ le 4 cdw15) ⌝ }
 {
     le::put16(buf, 48, nlb as u64);
-    le::put16(buf, 50, cdw12 as u64);
+    le::put16(buf, 50, cdw12_upper as u64);
     le::put32(buf, 52, cdw13 as u64);
     le::put32(buf, 56, cdw14 as u64);
     le::put32(buf, 60, cdw15 as u64);
@@ -74,7 +75,7 @@ fn store(buf: &mut [u8], e: Submission)
 {
     store_head(buf, e.opc, e.fuse % 4 + 64 * (e.psdt % 4), e.cid, e.nsid);
     store_pointers(buf, e.mptr, e.prp1, e.prp2, e.slba);
-    store_dwords(buf, e.nlb, e.cdw12, e.cdw13, e.cdw14, e.cdw15);
+    store_dwords(buf, e.nlb, e.cdw12_upper, e.cdw13, e.cdw14, e.cdw15);
 }
 
 // Writes an entry into the first 64 bytes of `buf`: 0, or the refusal number.
@@ -92,7 +93,7 @@ pub fn write(buf: &mut [u8], e: Submission) -> u64
 // Reads the entry in the first 64 bytes of `buf`.
 pub fn read(buf: &[u8]) -> SubmissionRead
     ensures { λ r. ⌜ r ≡ submissionRead (now (buf .entry)) ⌝ }
-    ensures { λ r. ⌜ submissionAnswer r ≡ submissionNumbers (now (buf .entry)) ⌝ }
+    ensures { λ r. ⌜ submissionAnswer r ≡ submissionAnswer (submissionRead (now (buf .entry))) ⌝ }
 {
     if buf.len() < 64 {
         return SubmissionRead::Refused(21);
@@ -109,7 +110,7 @@ pub fn read(buf: &[u8]) -> SubmissionRead
         prp2: le::get64(buf, 32),
         slba: le::get64(buf, 40),
         nlb: le::get16(buf, 48) as u16,
-        cdw12: le::get16(buf, 50) as u16,
+        cdw12_upper: le::get16(buf, 50) as u16,
         cdw13: le::get32(buf, 52) as u32,
         cdw14: le::get32(buf, 56) as u32,
         cdw15: le::get32(buf, 60) as u32,

@@ -18,8 +18,8 @@ use controller::Finished;
 use controller::Ring;
 use queues::rings::rings_outside;
 use ring::slots::distance_in;
+use ring::slots::next_phase;
 use ring::slots::next_slot;
-use ring::slots::next_tag;
 use store::Controller;
 use store::WORDS;
 use store::command_at;
@@ -105,7 +105,7 @@ fn with_posted(q: CompletionQueue) -> CompletionQueue
     ring.tail = next_slot(size, tail) as u16;
     CompletionQueue {
         ring: ring,
-        phase: next_tag(size, tail, q.phase as u64) as u8,
+        phase: next_phase(size, tail, q.phase as u64) as u8,
     }
 }
 

@@ -1,23 +1,22 @@
--- Document 01's number and values for each case of an answer: "every other number in its answer is 0" beside a refusal.
+-- The answers of the readers and of the page walk as the rig has them: document 01's numbers and values in one record.
 use Prim.Native.Nat.{ℕ}
-use Rattle.entry.specs.Submission.{noSubmission}
+use Rattle.entry.specs.Submission.{submissionAnswer}
 use Rattle.entry.specs.declared.submission.Submission.{Submission}
 use Rattle.entry.specs.declared.submission.SubmissionRead.{SubmissionRead}
-use Rattle.entry.specs.declared.submission.SubmissionRead.the-variants as S
+use Rattle.entry.specs.Completion.{completionAnswer}
 use Rattle.entry.specs.declared.completion.CompletionRead.{CompletionRead}
-use Rattle.entry.specs.declared.completion.CompletionRead.the-variants as C
+use Rattle.ring.specs.Reader.{waitingAnswer}
 use Rattle.ring.specs.declared.reader.Waiting.{Waiting}
-use Rattle.ring.specs.declared.reader.Waiting.the-variants as W
 use Rattle.prp.specs.Answer.{refusalOf, pagesOf, readsOf}
 use Rattle.prp.specs.declared.Walked.{Walked}
 use Rattle.rig.specs.declared.SubmissionNumbers.{SubmissionNumbers}
-use Rattle.rig.specs.declared.CompletionAnswer.{CompletionAnswer}
-use Rattle.rig.specs.declared.WaitingAnswer.{WaitingAnswer}
-use Rattle.rig.specs.declared.PagesAnswer.{PagesAnswer}
+use Rattle.rig.specs.declared.CompletionNumbers.{CompletionNumbers}
+use Rattle.rig.specs.declared.WaitingNumbers.{WaitingNumbers}
+use Rattle.rig.specs.declared.PagesNumbers.{PagesNumbers}
 
 -- an entry of these fields
-abbrev pub submissionOf : (opc fuse psdt cid nsid mptr prp1 prp2 slba nlb cdw12 cdw13 cdw14 cdw15 : ℕ) → Submission
-submissionOf opc fuse psdt cid nsid mptr prp1 prp2 slba nlb cdw12 cdw13 cdw14 cdw15 =
+abbrev pub submissionOf : (opc fuse psdt cid nsid mptr prp1 prp2 slba nlb «cdw12_upper» cdw13 cdw14 cdw15 : ℕ) → Submission
+submissionOf opc fuse psdt cid nsid mptr prp1 prp2 slba nlb «cdw12_upper» cdw13 cdw14 cdw15 =
     record {
       opc = opc;
       fuse = fuse;
@@ -29,7 +28,7 @@ submissionOf opc fuse psdt cid nsid mptr prp1 prp2 slba nlb cdw12 cdw13 cdw14 cd
       prp2 = prp2;
       slba = slba;
       nlb = nlb;
-      cdw12 = cdw12;
+      «cdw12_upper» = «cdw12_upper»;
       cdw13 = cdw13;
       cdw14 = cdw14;
       cdw15 = cdw15;
@@ -52,22 +51,29 @@ fieldsOf n e =
       cdw15 = e .cdw15;
       cid = e .cid;
       nlb = e .nlb;
-      cdw12 = e .cdw12;
+      «cdw12_upper» = e .«cdw12_upper»;
       opc = e .opc;
     }
 
 abbrev pub submissionNumbers : SubmissionRead → SubmissionNumbers
-submissionNumbers (S.Entry e) = fieldsOf 0 e
-submissionNumbers (S.Refused n) = fieldsOf n noSubmission
+submissionNumbers r = let a = submissionAnswer r in fieldsOf (a .0) (a .1)
 
-abbrev pub completionAnswer : CompletionRead → CompletionAnswer
-completionAnswer (C.Entry e tag) =
-    record { refusal = 0; result = e .result; sqhd = e .sqhd; sqid = e .sqid; cid = e .cid; status = e .status; tag = tag }
-completionAnswer (C.Refused n) = record { refusal = n; result = 0; sqhd = 0; sqid = 0; cid = 0; status = 0; tag = 0 }
+abbrev pub completionNumbers : CompletionRead → CompletionNumbers
+completionNumbers r =
+    let a = completionAnswer r in
+    let e = a .1 in
+    record {
+      refusal = a .0;
+      result = e .result;
+      sqhd = e .sqhd;
+      sqid = e .sqid;
+      cid = e .cid;
+      status = e .status;
+      phase = a .2;
+    }
 
-abbrev pub waitingAnswer : Waiting → WaitingAnswer
-waitingAnswer (W.Count n) = record { refusal = 0; count = n }
-waitingAnswer (W.Refused n) = record { refusal = n; count = 0 }
+abbrev pub waitingNumbers : Waiting → WaitingNumbers
+waitingNumbers r = let a = waitingAnswer r in record { refusal = a .0; count = a .1 }
 
-abbrev pub pagesAnswer : Walked → PagesAnswer
-pagesAnswer w = record { refusal = refusalOf w; pages = pagesOf w; reads = readsOf w }
+abbrev pub pagesNumbers : Walked → PagesNumbers
+pagesNumbers w = record { refusal = refusalOf w; pages = pagesOf w; reads = readsOf w }

@@ -11,7 +11,7 @@ ghost use Rattle.ring.specs.Reader.{ringRead};
 ghost use Rattle.prp.specs.Pages.{pageSize, byteCounts};
 ghost use Rattle.prp.specs.Walk.{pageWalk};
 ghost use Rattle.prp.specs.Answer.{answer, addressesOf, numbers};
-ghost use Rattle.rig.specs.Answers.{submissionOf, submissionNumbers, completionAnswer, waitingAnswer, pagesAnswer};
+ghost use Rattle.rig.specs.Answers.{submissionOf, submissionNumbers, completionNumbers, waitingNumbers, pagesNumbers};
 use entry::completion::CompletionRead;
 use entry::submission::Submission;
 use entry::submission::SubmissionRead;
@@ -21,14 +21,14 @@ use ring::reader::Waiting;
 pub mod state;
 
 #[repr(C)]
-pub struct CompletionAnswer {
+pub struct CompletionNumbers {
     pub refusal: u64,
     pub result: u32,
     pub sqhd: u16,
     pub sqid: u16,
     pub cid: u16,
     pub status: u16,
-    pub tag: u32,
+    pub phase: u32,
 }
 
 #[repr(C)]
@@ -46,18 +46,18 @@ pub struct SubmissionNumbers {
     pub cdw15: u32,
     pub cid: u16,
     pub nlb: u16,
-    pub cdw12: u16,
+    pub cdw12_upper: u16,
     pub opc: u16,
 }
 
 #[repr(C)]
-pub struct WaitingAnswer {
+pub struct WaitingNumbers {
     pub refusal: u64,
     pub count: u64,
 }
 
 #[repr(C)]
-pub struct PagesAnswer {
+pub struct PagesNumbers {
     pub refusal: u64,
     pub pages: u64,
     pub reads: u64,
@@ -77,14 +77,14 @@ pub extern "C" fn bellrafter_submission_write(
     prp2: u64,
     slba: u64,
     nlb: u16,
-    cdw12: u16,
+    cdw12_upper: u16,
     cdw13: u32,
     cdw14: u32,
     cdw15: u32,
 ) -> u64
     ensures { λ r. ⌜ r ≡ submission.writeRefusal (length (now (entry .entry))) ⌝ }
     ensures { λ _. ⌜ now (entry .exit) ≡ submission.written (now (entry .entry))
-        (submissionOf opc fuse psdt cid nsid mptr prp1 prp2 slba nlb cdw12 cdw13 cdw14 cdw15) ⌝ }
+        (submissionOf opc fuse psdt cid nsid mptr prp1 prp2 slba nlb «cdw12_upper» cdw13 cdw14 cdw15) ⌝ }
 {
     entry::submission::write(
         entry,
@@ -99,7 +99,7 @@ pub extern "C" fn bellrafter_submission_write(
             prp2: prp2,
             slba: slba,
             nlb: nlb,
-            cdw12: cdw12,
+            cdw12_upper: cdw12_upper,
             cdw13: cdw13,
             cdw14: cdw14,
             cdw15: cdw15,
@@ -127,7 +127,7 @@ pub extern "C" fn bellrafter_submission_read(entry: &[u8]) -> SubmissionNumbers
             cdw15: e.cdw15,
             cid: e.cid,
             nlb: e.nlb,
-            cdw12: e.cdw12,
+            cdw12_upper: e.cdw12_upper,
             opc: e.opc as u16,
         },
         SubmissionRead::Refused(number) => SubmissionNumbers {
@@ -144,7 +144,7 @@ pub extern "C" fn bellrafter_submission_read(entry: &[u8]) -> SubmissionNumbers
             cdw15: 0,
             cid: 0,
             nlb: 0,
-            cdw12: 0,
+            cdw12_upper: 0,
             opc: 0,
         },
     }
@@ -159,52 +159,57 @@ pub extern "C" fn bellrafter_completion_write(
     sqid: u16,
     cid: u16,
     status: u64,
-    tag: u64,
+    phase: u64,
 ) -> u64
     ensures { λ r. ⌜ r ≡ writeRefusal (length (now (entry .entry))) status ⌝ }
-    ensures { λ _. ⌜ now (entry .exit) ≡ written (now (entry .entry)) (completion result sqhd sqid cid status) tag ⌝ }
+    ensures { λ _. ⌜ now (entry .exit) ≡ written (now (entry .entry)) (completion result sqhd sqid cid status) phase ⌝ }
 {
-    entry::completion::write(entry, result, sqhd, sqid, cid, status, tag)
+    entry::completion::write(entry, result, sqhd, sqid, cid, status, phase)
 }
 
 // Reads the completion entry in the first 16 bytes of `entry`.
 #[no_mangle]
-pub extern "C" fn bellrafter_completion_read(entry: &[u8]) -> CompletionAnswer
-    ensures { λ r. ⌜ r ≡ completionAnswer (completionRead (now (entry .entry))) ⌝ }
+pub extern "C" fn bellrafter_completion_read(entry: &[u8]) -> CompletionNumbers
+    ensures { λ r. ⌜ r ≡ completionNumbers (completionRead (now (entry .entry))) ⌝ }
 {
     match entry::completion::read(entry) {
-        CompletionRead::Entry(e, tag) => CompletionAnswer {
+        CompletionRead::Entry(e, phase) => CompletionNumbers {
             refusal: 0,
             result: e.result,
             sqhd: e.sqhd,
             sqid: e.sqid,
             cid: e.cid,
             status: e.status,
-            tag: tag as u32,
+            phase: phase as u32,
         },
-        CompletionRead::Refused(number) => CompletionAnswer {
+        CompletionRead::Refused(number) => CompletionNumbers {
             refusal: number,
             result: 0,
             sqhd: 0,
             sqid: 0,
             cid: 0,
             status: 0,
-            tag: 0,
+            phase: 0,
         },
     }
 }
 
-// How many completions wait in a ring, for a reader that stands at `head` and expects `tag` there.
+// How many completions wait in a ring, for a reader that stands at `head` and expects `phase` there.
 #[no_mangle]
-pub extern "C" fn bellrafter_ring_read(ring: &[u8], size: u64, head: u64, tag: u64) -> WaitingAnswer
-    ensures { λ r. ⌜ r ≡ waitingAnswer (ringRead (now (ring .entry)) size head tag) ⌝ }
+pub extern "C" fn bellrafter_ring_read(
+    ring: &[u8],
+    size: u64,
+    head: u64,
+    phase: u64,
+) -> WaitingNumbers
+    ensures { λ r. ⌜ r ≡ waitingNumbers (ringRead (now (ring .entry)) size head phase) ⌝ }
 {
-    match ring::reader::read(ring, size, head, tag) {
-        Waiting::Count(count) => WaitingAnswer {
+    match ring::reader::read(ring, size, head, phase) {
+        Waiting::Count(count) => WaitingNumbers {
             refusal: 0,
             count: count,
         },
-        Waiting::Refused(number) => WaitingAnswer {
+        Waiting::Refused(number) => WaitingNumbers {
             refusal: number,
             count: 0,
         },
@@ -237,9 +242,9 @@ pub extern "C" fn bellrafter_page_walk(
     page: u64,
     addresses: &mut [u8],
     counts: &mut [u8],
-) -> PagesAnswer
+) -> PagesNumbers
     ensures { λ r. do
-      ⌜ r ≡ pagesAnswer (answer
+      ⌜ r ≡ pagesNumbers (answer
           (pageWalk (now (memory .entry)) prp1 prp2 length page (← ⟦addresses.len()⟧ .entry) (← ⟦counts.len()⟧ .entry))) ⌝ }
     ensures { λ _. do
       ⌜ now (addresses .exit) ≡ put (now (addresses .entry)) 0 (numbers 8 (addressesOf
@@ -247,12 +252,12 @@ pub extern "C" fn bellrafter_page_walk(
     ensures { λ r. ⌜ now (counts .exit) ≡ put (now (counts .entry)) 0 (numbers 4 (byteCounts (pageSize page) prp1 length (r .pages))) ⌝ }
 {
     match prp::walk(memory, prp1, prp2, length, page, addresses, counts) {
-        Walked::Pages(pages, reads) => PagesAnswer {
+        Walked::Pages(pages, reads) => PagesNumbers {
             refusal: 0,
             pages: pages,
             reads: reads,
         },
-        Walked::Refused(number) => PagesAnswer {
+        Walked::Refused(number) => PagesNumbers {
             refusal: number,
             pages: 0,
             reads: 0,

@@ -13,38 +13,38 @@ use Rattle.rules.proofs.Tests.{lt-or-ge, same-or-not}
 use Rattle.entry.specs.Completion.{completionAt}
 use Rattle.entry.specs.declared.completion.Completion.{Completion}
 use Rattle.entry.proofs.Completions.{Within}
-use Rattle.ring.specs.Slots.{next, distance, turned}
-use Rattle.ring.specs.Reader.{slotIn, tagIn, readCount, readSlots, found}
+use Rattle.ring.specs.Slots.{next, distance, phaseAfter}
+use Rattle.ring.specs.Reader.{slotIn, phaseIn, readCount, readSlots, found}
 use Rattle.ring.proofs.Wrap.{Wrapped, low, high, wrapped}
 use Rattle.ring.proofs.Steps.{Step, on, over, step, distance-ahead, distance-around, next-below}
 use Rattle.ring.proofs.Exact.{place, place-zero, place-suc, count-exact}
-use Rattle.ring.proofs.Posting.{postedIn, posted-length, posted-entry, posted-tag, posted-other}
+use Rattle.ring.proofs.Posting.{postedIn, posted-length, posted-entry, posted-phase, posted-other}
 
--- A ring of s slots. h: head; t: tail; w: the tag of the next posting; r: the tag that the reader expects at the head; ws: what waits.
--- The slots below the tail have this pass's tag, w, and all others the other one; the reader's tag is w exactly if the head is not
--- past the tail.
+-- A ring of s slots. h: head; t: tail; w: the phase tag of the next posting; r: the one that the reader expects at the head; ws: what
+-- waits. The slots below the tail have this pass's phase tag, w, and all others the other one; the reader's is w exactly if the head is
+-- not past the tail.
 pub record Phase (s h t w r : ℕ) (ring : List ℕ) (ws : List Completion) : Type 0 where
   pub sized : length ring ≡ 16 * s
   pub head-in : h < s
   pub tail-in : t < s
-  pub tag-in : w < 2
+  pub phase-in : w < 2
   pub room : length ws < s
   pub tail-at : t ≡ place s h (length ws)
   pub same-pass : h ≤ t → r ≡ w
   pub next-pass : t < h → r + w ≡ 1
-  pub below : (i : ℕ) → i < t → tagIn ring i ≡ w
-  pub above : (i : ℕ) → t ≤ i → i < s → tagIn ring i + w ≡ 1
+  pub below : (i : ℕ) → i < t → phaseIn ring i ≡ w
+  pub above : (i : ℕ) → t ≤ i → i < s → phaseIn ring i + w ≡ 1
   pub slots : readSlots (length ws) ring s h ≡ ws
 
--- a new ring, in which every tag is 0
-pub new : (s : ℕ) (ring : List ℕ) → 2 ≤ s → length ring ≡ 16 * s → ((i : ℕ) → i < s → tagIn ring i ≡ 0) → Phase s 0 0 1 1 ring []
+-- a new ring, in which every phase tag is 0
+pub new : (s : ℕ) (ring : List ℕ) → 2 ≤ s → length ring ≡ 16 * s → ((i : ℕ) → i < s → phaseIn ring i ≡ 0) → Phase s 0 0 1 1 ring []
 unfolding readSlots
 new s ring two len zeros =
     record {
       sized = len;
       head-in = omega arith;
       tail-in = omega arith;
-      tag-in = omega arith;
+      phase-in = omega arith;
       room = omega arith;
       tail-at = sym (mod-eq-of-lt (omega arith));
       same-pass = λ l. refl;
@@ -103,13 +103,13 @@ module _ {s h t w r : ℕ} {ring : List ℕ} {ws : List Completion} (v : Phase s
   tail-wrapped : Wrapped s (h + length ws) t
   tail-wrapped = rw (v .tail-at) (wrapped s (h + length ws) (omega arith))
 
-  pub reader-tag-in : r < 2
-  reader-tag-in = ⊎-elim (λ l. omega (arith, v .next-pass l)) (λ l. omega (arith, v .same-pass l)) (lt-or-ge t h)
+  pub reader-phase-in : r < 2
+  reader-phase-in = ⊎-elim (λ l. omega (arith, v .next-pass l)) (λ l. omega (arith, v .same-pass l)) (lt-or-ge t h)
 
   -- ---- the reader
 
-  -- a slot that waits has the tag that the reader expects there
-  hit : (k p : ℕ) → k < length ws → Wrapped s (h + k) p → Wrapped s (h + length ws) t → tagIn ring p ≡ pick (ltb (h + k) s) r (1 - r)
+  -- a slot that waits has the phase tag that the reader expects there
+  hit : (k p : ℕ) → k < length ws → Wrapped s (h + k) p → Wrapped s (h + length ws) t → phaseIn ring p ≡ pick (ltb (h + k) s) r (1 - r)
   hit k p l (low a b) (low c d) = rw (lt-ltb (h + k) s a) (omega (arith, v .same-pass (omega arith), v .below p (omega arith)))
   hit k p l (low a b) (high c d e) =
       rw (lt-ltb (h + k) s a) (omega (arith, v .next-pass (omega arith), v .above p (omega arith) (omega arith)))
@@ -117,7 +117,7 @@ module _ {s h t w r : ℕ} {ring : List ℕ} {ws : List Completion} (v : Phase s
   hit k p l (high a b q) (high c d e) = rw (le-ltb (h + k) s a) (omega (arith, v .next-pass (omega arith), v .below p (omega arith)))
 
   -- and the slot at the tail has not
-  miss : Wrapped s (h + length ws) t → tagIn ring t ≡ pick (ltb (h + length ws) s) r (1 - r) → ⊥
+  miss : Wrapped s (h + length ws) t → phaseIn ring t ≡ pick (ltb (h + length ws) s) r (1 - r) → ⊥
   miss (low a b) e =
       let q = rw (lt-ltb (h + length ws) s a) at e in omega (arith, v .same-pass (omega arith), v .above t (omega arith) (v .tail-in))
   miss (high a b c) e =
@@ -126,9 +126,9 @@ module _ {s h t w r : ℕ} {ring : List ℕ} {ws : List Completion} (v : Phase s
   -- the reader counts exactly what waits
   pub counts : readCount (s - 1) ring s h r ≡ length ws
   counts =
-      count-exact ring s (s - 1) (length ws) h r (v .head-in) reader-tag-in (omega arith) (omega arith)
+      count-exact ring s (s - 1) (length ws) h r (v .head-in) reader-phase-in (omega arith) (omega arith)
       (λ i l. hit i (place s h i) l (wrapped s (h + i) (omega arith)) tail-wrapped)
-      (λ l e. miss tail-wrapped (ap (tagIn ring) (v .tail-at) ∙ e))
+      (λ l e. miss tail-wrapped (ap (phaseIn ring) (v .tail-at) ∙ e))
 
   -- and finds exactly that
   pub finds : found ring s h r ≡ ws
@@ -177,12 +177,12 @@ module _ {s h t w r : ℕ} {ring : List ℕ} {ws : List Completion} (v : Phase s
     more : length (ws ++ e ∷ []) ≡ suc (length ws)
     more = length-append ws (e ∷ []) ∙ omega arith
 
-    tag-tail : tagIn (postedIn ring t e w) t ≡ w
-    tag-tail = posted-tag ring t e w fit within (v .tag-in)
+    phase-tail : phaseIn (postedIn ring t e w) t ≡ w
+    phase-tail = posted-phase ring t e w fit within (v .phase-in)
 
-    tag-rest : (i : ℕ) → i < s → (i ≡ t → ⊥) → tagIn (postedIn ring t e w) i ≡ tagIn ring i
-    unfolding tagIn
-    tag-rest i l ne = rw (posted-other ring t e w fit i (omega arith) ne)
+    phase-rest : (i : ℕ) → i < s → (i ≡ t → ⊥) → phaseIn (postedIn ring t e w) i ≡ phaseIn ring i
+    unfolding phaseIn
+    phase-rest i l ne = rw (posted-other ring t e w fit i (omega arith) ne)
 
     post-slots : readSlots (length (ws ++ e ∷ [])) (postedIn ring t e w) s h ≡ ws ++ e ∷ []
     post-slots =
@@ -197,14 +197,14 @@ module _ {s h t w r : ℕ} {ring : List ℕ} {ws : List Completion} (v : Phase s
           sized = posted-length ring t e w fit ∙ v .sized;
           head-in = v .head-in;
           tail-in = omega arith;
-          tag-in = omega arith;
+          phase-in = omega arith;
           room = omega (arith, more);
           tail-at = q;
           same-pass = λ l. v .same-pass (omega (arith, not-behind tail-wrapped)) ∙ sym c;
           next-pass = λ l. ap (λ (x : ℕ). r + x) c ∙ v .next-pass (omega arith);
-          below = λ i l. ⊎-elim (λ (f : i ≡ t). ap (tagIn (postedIn ring t e w)) f ∙ tag-tail ∙ sym c)
-              (λ f. tag-rest i (omega arith) f ∙ v .below i (omega arith) ∙ sym c) (same-or-not i t);
-          above = λ i k l. ap₂ (λ (x y : ℕ). x + y) (tag-rest i l (omega arith)) c ∙ v .above i (omega arith) l;
+          below = λ i l. ⊎-elim (λ (f : i ≡ t). ap (phaseIn (postedIn ring t e w)) f ∙ phase-tail ∙ sym c)
+              (λ f. phase-rest i (omega arith) f ∙ v .below i (omega arith) ∙ sym c) (same-or-not i t);
+          above = λ i k l. ap₂ (λ (x y : ℕ). x + y) (phase-rest i l (omega arith)) c ∙ v .above i (omega arith) l;
           slots = post-slots;
         }
     post-at t′ w′ (over a b c) q =
@@ -212,20 +212,20 @@ module _ {s h t w r : ℕ} {ring : List ℕ} {ws : List Completion} (v : Phase s
           sized = posted-length ring t e w fit ∙ v .sized;
           head-in = v .head-in;
           tail-in = omega arith;
-          tag-in = omega arith;
+          phase-in = omega arith;
           room = omega (arith, more);
           tail-at = q;
           same-pass = λ l. absurd (not-over tail-wrapped a (omega arith));
           next-pass = λ l. omega (arith, v .same-pass (omega arith));
           below = λ i l. omega arith;
-          above = λ i k l. ⊎-elim (λ (f : i ≡ t). omega (arith, ap (tagIn (postedIn ring t e w)) f, tag-tail))
-              (λ (f : i ≡ t → ⊥). omega (arith, tag-rest i l f, v .below i (omega arith))) (same-or-not i t);
+          above = λ i k l. ⊎-elim (λ (f : i ≡ t). omega (arith, ap (phaseIn (postedIn ring t e w)) f, phase-tail))
+              (λ (f : i ≡ t → ⊥). omega (arith, phase-rest i l f, v .below i (omega arith))) (same-or-not i t);
           slots = post-slots;
         }
 
     -- a posting at the tail: the entry waits last
-    pub post : Phase s h (next s t) (turned s t w) r (postedIn ring t e w) (ws ++ e ∷ [])
-    post = post-at (next s t) (turned s t w) (step s t w (v .tail-in)) (rw (v .tail-at, more) (place-next s h (length ws)))
+    pub post : Phase s h (next s t) (phaseAfter s t w) r (postedIn ring t e w) (ws ++ e ∷ [])
+    post = post-at (next s t) (phaseAfter s t w) (step s t w (v .tail-in)) (rw (v .tail-at, more) (place-next s h (length ws)))
 
   -- ---- a head write
 
@@ -248,7 +248,7 @@ module _ {s h t w r : ℕ} {ring : List ℕ} {ws : List Completion} (v : Phase s
           sized = v .sized;
           head-in = in-ring;
           tail-in = v .tail-in;
-          tag-in = v .tag-in;
+          phase-in = v .phase-in;
           room = omega (arith, length-drop d ws);
           tail-at =
               sym (ap₂ (λ (y z : ℕ). (y + z) % s) (sym (distance-back s h u d in-ring x)) (length-drop d ws)
@@ -264,6 +264,6 @@ module _ {s h t w r : ℕ} {ring : List ℕ} {ws : List Completion} (v : Phase s
               (ap (drop d) (v .slots));
         }
 
-    -- a head write that is accepted: as many as its distance leave, and a value below the head turns the reader's tag
+    -- a head write that is accepted: as many as its distance leave, and a value below the head turns the reader's phase tag
     pub move : distance s h u ≤ distance s h t → Phase s u t w (pick (ltb u h) (1 - r) r) ring (drop (distance s h u) ws)
     move valid = move-at (distance s h u) (distance-is s h u (v .head-in) in-ring) (omega (arith, waiting-length))

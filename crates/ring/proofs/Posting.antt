@@ -11,8 +11,8 @@ use Rattle.le.specs.Memory.{put}
 use Rattle.le.proofs.Parts.{put-length, part-put, part-out}
 use Rattle.entry.specs.Completion.{completionBytes, completionAt, phaseTag}
 use Rattle.entry.specs.declared.completion.Completion.{Completion}
-use Rattle.entry.proofs.Completions.{Within, completion-length, completion-back, tag-back}
-use Rattle.ring.specs.Reader.{slotIn, tagIn}
+use Rattle.entry.proofs.Completions.{Within, completion-length, completion-back, phase-back}
+use Rattle.ring.specs.Reader.{slotIn, phaseIn}
 
 -- the ring with an entry and its phase tag in slot t
 abbrev pub postedIn : List ℕ → ℕ → Completion → ℕ → List ℕ
@@ -32,9 +32,9 @@ module _ (ring : List ℕ) (t : ℕ) (e : Completion) (g : ℕ) (fit : 16 * t + 
   pub posted-entry : Within e → completionAt (slotIn (postedIn ring t e g) t) ≡ e
   posted-entry w = ap completionAt (posted-bytes ∙ sym (append-nil (completionBytes e g))) ∙ completion-back e g [] w
 
-  pub posted-tag : Within e → g < 2 → tagIn (postedIn ring t e g) t ≡ g
-  unfolding tagIn
-  posted-tag w l = ap phaseTag (posted-bytes ∙ sym (append-nil (completionBytes e g))) ∙ tag-back e g [] w ∙ mod-eq-of-lt l
+  pub posted-phase : Within e → g < 2 → phaseIn (postedIn ring t e g) t ≡ g
+  unfolding phaseIn
+  posted-phase w l = ap phaseTag (posted-bytes ∙ sym (append-nil (completionBytes e g))) ∙ phase-back e g [] w ∙ mod-eq-of-lt l
 
   pub posted-other : (p : ℕ) → 16 * p + 16 ≤ length ring → (p ≡ t → ⊥) → slotIn (postedIn ring t e g) p ≡ slotIn ring p
   unfolding slotIn

@@ -1,4 +1,4 @@
--- Laws of slots, distances and the turning tag. Assumes nothing.
+-- Laws of slots, distances and the turning phase tag. Assumes nothing.
 use mathlib.Core.Path.{_≡_, ap, _∙_}
 use mathlib.Core.Logic.{_⊎_, ⊎-elim}
 use Prim.Native.Nat.{ℕ, _+_, _-_, _%_, _<_, _≤_}
@@ -6,9 +6,9 @@ use native.Mathlib.Omega.{arith}
 use native.Mathlib.Nat.{mod-lt, mod-eq-of-lt, mod-self, add-mod-right}
 use borrow.Author.Tests.{eq-eqb, ne-eqb}
 use Rattle.rules.proofs.Tests.{same-or-not}
-use Rattle.ring.specs.Slots.{next, distance, turned}
+use Rattle.ring.specs.Slots.{next, distance, phaseAfter}
 
--- the step from a slot and its tag to the next: on, or over the wrap
+-- the step from a slot and its phase tag to the next: on, or over the wrap
 module _ (s p g : ℕ) where
   pub next-on : p + 1 < s → next s p ≡ p + 1
   unfolding next
@@ -18,22 +18,22 @@ module _ (s p g : ℕ) where
   unfolding next
   next-over e = ap (λ (x : ℕ). x % s) e ∙ mod-self s
 
-  pub turned-on : (p + 1 ≡ s → ⊥) → turned s p g ≡ g
-  unfolding turned
-  turned-on n = rw (ne-eqb (p + 1) s n)
+  pub phase-on : (p + 1 ≡ s → ⊥) → phaseAfter s p g ≡ g
+  unfolding phaseAfter
+  phase-on n = rw (ne-eqb (p + 1) s n)
 
-  pub turned-over : p + 1 ≡ s → turned s p g ≡ 1 - g
-  unfolding turned
-  turned-over e = rw (eq-eqb (p + 1) s e)
+  pub phase-over : p + 1 ≡ s → phaseAfter s p g ≡ 1 - g
+  unfolding phaseAfter
+  phase-over e = rw (eq-eqb (p + 1) s e)
 
 pub data Step (s p g p′ g′ : ℕ) : Type 0 where
   on : p + 1 < s → p′ ≡ p + 1 → g′ ≡ g → Step s p g p′ g′
   over : p + 1 ≡ s → p′ ≡ 0 → g′ ≡ 1 - g → Step s p g p′ g′
 
-pub step : (s p g : ℕ) → p < s → Step s p g (next s p) (turned s p g)
+pub step : (s p g : ℕ) → p < s → Step s p g (next s p) (phaseAfter s p g)
 step s p g l =
-    ⊎-elim (λ (e : p + 1 ≡ s). over e (next-over s p g e) (turned-over s p g e))
-    (λ (n : p + 1 ≡ s → ⊥). on (omega arith) (next-on s p g (omega arith)) (turned-on s p g n)) (same-or-not (p + 1) s)
+    ⊎-elim (λ (e : p + 1 ≡ s). over e (next-over s p g e) (phase-over s p g e))
+    (λ (n : p + 1 ≡ s → ⊥). on (omega arith) (next-on s p g (omega arith)) (phase-on s p g n)) (same-or-not (p + 1) s)
 
 pub next-below : (s p : ℕ) → 0 < s → next s p < s
 unfolding next

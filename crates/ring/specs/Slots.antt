@@ -17,5 +17,5 @@ unfoldable pub distance : ℕ → ℕ → ℕ → ℕ
 distance size a b = (b + size - a) % size
 
 -- the phase tag of the slot after p, where that of p is tag: it "turns over at each wrap"
-unfoldable pub turned : ℕ → ℕ → ℕ → ℕ
-turned size p tag = pick (eqb (p + 1) size) (1 - tag) tag
+unfoldable pub phaseAfter : ℕ → ℕ → ℕ → ℕ
+phaseAfter size p phase = pick (eqb (p + 1) size) (1 - phase) phase

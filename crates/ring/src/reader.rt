@@ -2,7 +2,7 @@
 ghost use mathlib.Core.Path.{_≡_};
 ghost use Prim.Native.Nat.{ℕ, _+_, _*_, _-_, _≤_, _<_};
 ghost use lib.ListN.{length};
-ghost use Rattle.ring.specs.Reader.{tagIn, readCount, readerRefusal, ringRead};
+ghost use Rattle.ring.specs.Reader.{phaseIn, readCount, readerRefusal, waitingAnswer, ringRead};
 use crate::slots::wrong_size;
 
 // How many completions wait, or the refusal number.
@@ -12,21 +12,21 @@ pub enum Waiting {
 }
 
 // The phase tag of the entry in `slot`.
-fn tag_in(ring: &[u8], slot: u64) -> u64
+fn phase_in(ring: &[u8], slot: u64) -> u64
     requires { ⌜ (slot < 1024) × (16 * slot + 16 ≤ length (now ring)) ⌝ }
-    ensures { λ r. ⌜ r ≡ tagIn (now (ring .entry)) slot ⌝ }
+    ensures { λ r. ⌜ r ≡ phaseIn (now (ring .entry)) slot ⌝ }
 {
     le::get8(ring, (16 * slot + 14) as usize) % 2
 }
 
-// How many entries in a row, from `slot` on and at most `most`, have the tag: none of them lies past the wrap.
-fn run(ring: &[u8], slot: u64, most: u64, tag: u64) -> u64
+// How many entries in a row, from `slot` on and at most `most`, have the phase tag: none of them lies past the wrap.
+fn run(ring: &[u8], slot: u64, most: u64, phase: u64) -> u64
     requires { ⌜ (slot + most ≤ 1024) × (16 * (slot + most) ≤ length (now ring)) ⌝ }
-    ensures { λ r. ⌜ (r ≤ most) × ((size : ℕ) → slot + most ≤ size → r ≡ readCount most (now (ring .entry)) size slot tag) ⌝ }
+    ensures { λ r. ⌜ (r ≤ most) × ((size : ℕ) → slot + most ≤ size → r ≡ readCount most (now (ring .entry)) size slot phase) ⌝ }
 {
     let mut n: u64 = 0;
     while n < most {
-        if tag_in(ring, slot + n) != tag {
+        if phase_in(ring, slot + n) != phase {
             return n;
         }
         n += 1;
@@ -34,19 +34,19 @@ fn run(ring: &[u8], slot: u64, most: u64, tag: u64) -> u64
     n
 }
 
-// How many entries in a row, from `head` on and at most size - 1, have the tag expected: up to the wrap, and from there on.
-fn count(ring: &[u8], size: u64, head: u64, tag: u64) -> u64
-    requires { ⌜ (2 ≤ size) × (size ≤ 1024) × (16 * size ≤ length (now ring)) × (head < size) × (tag < 2) ⌝ }
-    ensures { λ r. ⌜ r ≡ readCount (size - 1) (now (ring .entry)) size head tag ⌝ }
+// How many entries in a row, from `head` on and at most size - 1, have the phase tag expected: up to the wrap, and from there on.
+fn count(ring: &[u8], size: u64, head: u64, phase: u64) -> u64
+    requires { ⌜ (2 ≤ size) × (size ≤ 1024) × (16 * size ≤ length (now ring)) × (head < size) × (phase < 2) ⌝ }
+    ensures { λ r. ⌜ r ≡ readCount (size - 1) (now (ring .entry)) size head phase ⌝ }
 {
     if head == 0 {
-        return run(ring, 0, size - 1, tag);
+        return run(ring, 0, size - 1, phase);
     }
-    let n = run(ring, head, size - head, tag);
+    let n = run(ring, head, size - head, phase);
     if n < size - head {
         return n;
     }
-    n + run(ring, 0, head - 1, 1 - tag)
+    n + run(ring, 0, head - 1, 1 - phase)
 }
 
 fn refusal(bytes: usize, size: u64, head: u64) -> u64
@@ -65,13 +65,14 @@ fn refusal(bytes: usize, size: u64, head: u64) -> u64
     0
 }
 
-// How many completions wait in a ring, for a reader that stands at `head` and expects `tag` there.
-pub fn read(ring: &[u8], size: u64, head: u64, tag: u64) -> Waiting
-    ensures { λ r. ⌜ r ≡ ringRead (now (ring .entry)) size head tag ⌝ }
+// How many completions wait in a ring, for a reader that stands at `head` and expects `phase` there.
+pub fn read(ring: &[u8], size: u64, head: u64, phase: u64) -> Waiting
+    ensures { λ r. ⌜ r ≡ ringRead (now (ring .entry)) size head phase ⌝ }
+    ensures { λ r. ⌜ waitingAnswer r ≡ waitingAnswer (ringRead (now (ring .entry)) size head phase) ⌝ }
 {
     let number = refusal(ring.len(), size, head);
     if number != 0 {
         return Waiting::Refused(number);
     }
-    Waiting::Count(count(ring, size, head, tag % 2))
+    Waiting::Count(count(ring, size, head, phase % 2))
 }

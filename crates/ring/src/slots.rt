@@ -2,7 +2,7 @@
 // below the size, which every caller shows.
 ghost use mathlib.Core.Path.{_≡_};
 ghost use Prim.Native.Nat.{_≤_, _<_};
-ghost use Rattle.ring.specs.Slots.{wrongSize, next, distance, turned};
+ghost use Rattle.ring.specs.Slots.{wrongSize, next, distance, phaseAfter};
 
 // How many entries a ring has.
 pub const LEAST_SIZE: u64 = 2;
@@ -32,9 +32,9 @@ pub fn next_slot(size: u64, slot: u64) -> u64
 }
 
 // The phase tag of the slot after one: at the wrap it turns over.
-pub fn next_tag(size: u64, slot: u64, tag: u64) -> u64
-    requires { ⌜ (slot < size) × (size ≤ 1024) × (tag < 2) ⌝ }
-    ensures { λ r. ⌜ (r ≡ turned size slot tag) × (r < 2) ⌝ }
+pub fn next_phase(size: u64, slot: u64, phase: u64) -> u64
+    requires { ⌜ (slot < size) × (size ≤ 1024) × (phase < 2) ⌝ }
+    ensures { λ r. ⌜ (r ≡ phaseAfter size slot phase) × (r < 2) ⌝ }
 {
-    if slot + 1 == size { 1 - tag } else { tag }
+    if slot + 1 == size { 1 - phase } else { phase }
 }

@@ -112,7 +112,7 @@ fn entry_of(slot: u64, pairs: bool) -> Submission {
         prp2: 0,
         slba: slot / 2,
         nlb: 7,
-        cdw12: 0,
+        cdw12_upper: 0,
         cdw13: 0,
         cdw14: 0,
         cdw15: 0,

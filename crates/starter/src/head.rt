@@ -25,7 +25,7 @@ fn blank() -> Submission {
         prp2: 0,
         slba: 0,
         nlb: 0,
-        cdw12: 0,
+        cdw12_upper: 0,
         cdw13: 0,
         cdw14: 0,
         cdw15: 0,

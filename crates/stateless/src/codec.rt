@@ -31,7 +31,7 @@ fn write_sqe(part: &mut [u8], a: [u64; 16]) -> Reply {
         prp2: a[9],
         slba: a[10],
         nlb: low16(a[11]),
-        cdw12: low16(a[12]),
+        cdw12_upper: low16(a[12]),
         cdw13: low32(a[13]),
         cdw14: low32(a[14]),
         cdw15: low32(a[15]),
@@ -52,7 +52,7 @@ fn read_sqe(part: &[u8]) -> Reply {
             .and(e.prp2)
             .and(e.slba)
             .and16(e.nlb)
-            .and16(e.cdw12)
+            .and16(e.cdw12_upper)
             .and32(e.cdw13)
             .and32(e.cdw14)
             .and32(e.cdw15),
@@ -74,13 +74,13 @@ fn write_cqe(part: &mut [u8], a: [u64; 16]) -> Reply {
 
 fn read_cqe(part: &[u8]) -> Reply {
     match entry::completion::read(part) {
-        CompletionRead::Entry(e, tag) => Reply::of(0)
+        CompletionRead::Entry(e, phase) => Reply::of(0)
             .and32(e.result)
             .and16(e.sqhd)
             .and16(e.sqid)
             .and16(e.cid)
             .and16(e.status)
-            .and8(tag),
+            .and8(phase),
         CompletionRead::Refused(n) => Reply::refused(n, 7),
     }
 }

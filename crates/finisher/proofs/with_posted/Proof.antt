@@ -6,7 +6,7 @@ use Rattle.finisher.proofs.with_posted.Tie as tie
 
 returns : tie.Need-returns
 unfolding posted
-returns c = rw (c .before .before .next-slot .ensures .0, c .next-tag .ensures .0)
+returns c = rw (c .before .before .next-slot .ensures .0, c .next-phase .ensures .0)
 
 pub with-posted-spec : {M : Type 1} → statement M
 with-posted-spec =

@@ -12,12 +12,12 @@ use Rattle.entry.proofs.completion.store.Statement.{statement}
 use Rattle.entry.proofs.completion.store.Tie as tie
 
 -- six stores of fields, one after the other, put the entry in
-joined : (l : List ℕ) (result sqhd sqid cid status tag : ℕ) → 16 ≤ length l
+joined : (l : List ℕ) (result sqhd sqid cid status phase : ℕ) → 16 ≤ length l
     → sets (sets (sets (sets (sets (sets l 0 (le 4 result)) 4 (le 4 0)) 8 (le 2 sqhd)) 10 (le 2 sqid)) 12 (le 2 cid)) 14
-    (le 2 (2 * status + tag % 2))
-    ≡ put l 0 (completionBytes (completion result sqhd sqid cid status) tag)
+    (le 2 (2 * status + phase % 2))
+    ≡ put l 0 (completionBytes (completion result sqhd sqid cid status) phase)
 unfolding le completionBytes
-joined l result sqhd sqid cid status tag h = sets-put l 0 (completionBytes (completion result sqhd sqid cid status) tag) h
+joined l result sqhd sqid cid status phase h = sets-put l 0 (completionBytes (completion result sqhd sqid cid status) phase) h
 
 returns : tie.Need-returns
 returns c =

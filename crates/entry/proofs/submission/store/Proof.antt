@@ -18,7 +18,7 @@ joined : (l : List ℕ) (e : Submission) → 64 ≤ length l
     (sets (sets l 0 (le 1 (e .opc) ++ le 1 (flags e) ++ le 2 (e .cid) ++ le 4 (e .nsid) ++ le 8 0)) 16
     (le 8 (e .mptr) ++ le 8 (e .prp1) ++ le 8 (e .prp2) ++ le 8 (e .slba)))
     48
-    (le 2 (e .nlb) ++ le 2 (e .cdw12) ++ le 4 (e .cdw13) ++ le 4 (e .cdw14) ++ le 4 (e .cdw15))
+    (le 2 (e .nlb) ++ le 2 (e .«cdw12_upper») ++ le 4 (e .cdw13) ++ le 4 (e .cdw14) ++ le 4 (e .cdw15))
     ≡ put l 0 (submissionBytes e)
 unfolding le submissionBytes
 joined l e h = sets-put l 0 (submissionBytes e) h
