@@ -58,7 +58,7 @@ module _ {c : Controller} (v : Valid c) where
   ring-ok (cq i) = v .cq-ok i
 
   -- where no ring passes a test, each that exists fails it
-  no-ring : (p : RingTest) → someRing c p ≡ false → (x : RingId) → ringAt c x .exists ≡ true → p (entryOf x) (ringAt c x) ≡ false
+  pub no-ring : (p : RingTest) → someRing c p ≡ false → (x : RingId) → ringAt c x .exists ≡ true → p (entryOf x) (ringAt c x) ≡ false
   unfolding someRing
   no-ring p e (sq i) h =
       rw h at (none-some 16 (λ j. existing p 64 (sqAt c j .ring)) (or-false (someSq (c .sqs) p) (someCq (c .cqs) p) e .0) i (sq-below v h))

@@ -10,6 +10,8 @@ pub mod Unserved
 pub mod Submitted
 pub mod Links
 pub mod Apart
+pub mod Exactly
+pub mod Verdicts
 pub mod Written
 pub mod Account
 pub mod Booked

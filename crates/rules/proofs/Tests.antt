@@ -17,6 +17,10 @@ lt-or-ge a b = ⊎-elim (λ e. inl (ltb-true a b e)) (λ e. inr (ltb-false a b e
 pub same-or-not : (a b : ℕ) → (a ≡ b) ⊎ (a ≡ b → ⊥)
 same-or-not a b = ⊎-elim (λ e. inl (eqb-true a b e)) (λ e. inr (eqb-false a b e)) (bool-cases (eqb a b))
 
+pub not-not : (b : Bool) → ((b ≡ true → ⊥) → ⊥) → b ≡ true
+not-not true h = refl
+not-not false h = absurd (h (λ e. true≢false (sym e)))
+
 pub clash : {b : Bool} → b ≡ true → b ≡ false → ⊥
 clash p q = true≢false (sym p ∙ q)
 
