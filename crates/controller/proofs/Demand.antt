@@ -1,4 +1,5 @@
--- DEMAND 3, over any list of calls: the reader finds exactly what was posted and not yet released. Assumes nothing.
+-- DEMAND 1, of every call; and DEMAND 3, over any list of calls: the reader finds exactly what was posted and not yet released. Assumes
+-- nothing.
 use Prim.Native.Nat.{ℕ, _*_, _<_, _^_}
 use mathlib.Core.List.{List, [], _∷_, foldl}
 use mathlib.Core.Path.{_≡_, refl, sym, ap, _∙_}
@@ -15,7 +16,8 @@ use Rattle.ring.specs.declared.reader.Waiting.the-variants.{Count, Refused}
 use Rattle.controller.specs.Controller.{Controller}
 use Rattle.controller.specs.State.{cqAt, freshController}
 use Rattle.controller.specs.Answers.{Outcome}
-use Rattle.controller.specs.Calls.{Call, resultOf, Reachable, fresh, after}
+use Rattle.controller.specs.Calls.{Call, resultOf, Reachable, fresh, after, perform}
+use Rattle.controller.specs.Refusing.{Answered}
 use Rattle.controller.specs.Steps.{Given, steps, final}
 use Rattle.controller.specs.Valid.{RingOk}
 use Rattle.controller.specs.Book.{Book, empty}
@@ -23,12 +25,18 @@ use Rattle.controller.specs.Demand.{booked, headsOn, heads, reader, Clea
 use Rattle.controller.specs.Demand.{unreleased, bookHead, bookPhase}
 use Rattle.controller.proofs.Made.{takes-one, takes-pair, finishes, Made, refuses, marks, creates-cq, creates-sq, moves-tail}
 use Rattle.controller.proofs.Made.{moves-head, commands, made}
+use Rattle.controller.proofs.Answered.{answered}
 use Rattle.controller.proofs.Steps.{reached}
 use Rattle.controller.proofs.Validity.{valid}
 use Rattle.controller.proofs.Account.{Queue, placeOf, World, Next, world-fresh, kept}
 use Rattle.controller.proofs.Booked.{next-refused, next-marked, next-tail, next-create-sq, next-create-cq, next-head}
 use Rattle.controller.proofs.BookedStart.{next-one, next-pair}
 use Rattle.controller.proofs.BookedFinish.{next-finish}
+
+-- DEMAND 1: any call on any controller, in any memory, is refused by one of its numbers or answers its values; and a refusal leaves
+-- memory and controller as they were, but that 10 on a tail write marks the SQ
+pub demand1 : (c : Controller) (m : Memory) (call : Call) → Answered c m call (perform c m call)
+demand1 = answered
 
 -- ---- over the calls
 

@@ -325,14 +325,13 @@ pub record FirstHalfOut (c : Controller) (tag : ℕ) : Type 0 where
 abbrev pub NoFreeSlot : Ring → Type 0
 NoFreeSlot k = next (k .size) (k .tail) ≡ k .head
 
+-- all but the last
+abbrev pub beforeFull : Controller → ℕ → ℕ → ℕ → Reasons
+beforeFull c n tag status =
+    (Outside c n, 5) ∷ ((Outstanding c tag → ⊥), 14) ∷ (32767 < status, 15) ∷ (FirstHalfOut c tag, 16) ∷ []
+
 abbrev pub finishReasons : Controller → ℕ → ℕ → ℕ → Reasons
-finishReasons c n tag status =
-    (Outside c n, 5)
-    ∷ ((Outstanding c tag → ⊥), 14)
-    ∷ (32767 < status, 15)
-    ∷ (FirstHalfOut c tag, 16)
-    ∷ (NoFreeSlot (cqAt c (cqOf c tag) .ring), 17)
-    ∷ []
+finishReasons c n tag status = beforeFull c n tag status ++ ((NoFreeSlot (cqAt c (cqOf c tag) .ring), 17) ∷ [])
 
 pub says-out : (c : Controller) (tag : ℕ) → Says (outstanding (c .free) tag) (Outstanding c tag)
 unfolding outstanding

@@ -10,6 +10,7 @@ pub mod Unserved
 pub mod Submitted
 pub mod Links
 pub mod Apart
+pub mod Answered
 pub mod Exactly
 pub mod Verdicts
 pub mod Written

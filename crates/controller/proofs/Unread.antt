@@ -1,7 +1,7 @@
 -- What a finish writes: its own 16 bytes and no others, and never a slot whose entry is still unread. Assumes nothing.
-use Prim.Native.Nat.{ℕ, _+_, _-_, _<_, _≤_}
+use Prim.Native.Nat.{ℕ, suc, _+_, _-_, _<_, _≤_}
 use mathlib.Core.Bool.{true}
-use mathlib.Core.List.{List}
+use mathlib.Core.List.{List, []}
 use mathlib.Core.Logic.{_⊎_, ⊎-elim, _↔_}
 use mathlib.Core.Path.{_≡_, sym, ap, _∙_}
 use native.Mathlib.Omega.{arith}
@@ -9,6 +9,7 @@ use lib.ListN.{length, getD}
 use borrow.Author.Tests.{eq-eqb, eqb-true}
 use Rattle.rules.proofs.Tests.{same-or-not}
 use Rattle.rules.proofs.Tables.{settle-refused, settle-accepted}
+use Rattle.rules.proofs.Exactly.{says-iff, NoneOf, given-exactly}
 use Rattle.le.specs.Memory.{Memory, part}
 use Rattle.le.proofs.Parts.{put-length, put-out, part-put}
 use Rattle.entry.specs.Completion.{completionBytes}
@@ -16,15 +17,17 @@ use Rattle.entry.proofs.Completions.{completion-length}
 use Rattle.ring.specs.Reader.{slotIn}
 use Rattle.ring.proofs.Exact.{place}
 use Rattle.ring.proofs.Phase as phase
+use Rattle.ring.proofs.Exactly.{says-full}
 use Rattle.controller.specs.Controller.{Controller}
 use Rattle.controller.specs.State.{cqAt, commandAt}
 use Rattle.controller.specs.Finishing as finishing
 use Rattle.controller.specs.Finishing.{cqOf, full, finishRefusal, completionOf, statusOf, finishedController, tailOf, postedMemory}
-use Rattle.controller.specs.Answers.{FinishAnswer, refused, finished, Outcome, outcome, refusing}
+use Rattle.controller.specs.Answers.{FinishAnswer, Answer, refused, done, started, finished, numberOf, Outcome, outcome, refusing}
 use Rattle.controller.specs.Calls.{Reachable, finish, perform}
 use Rattle.controller.specs.Demand.{History, ringOf, ringBytes, sizeOf, unreleased, bookHead}
 use Rattle.controller.proofs.Made.{finishable}
 use Rattle.controller.proofs.Validity.{valid}
+use Rattle.controller.proofs.Exactly.{NoFreeSlot, beforeFull, finish-refusal}
 use Rattle.controller.proofs.Written.{posts-to, fits, ring-posted, ring-kept}
 use Rattle.controller.proofs.Booked.{this-or-other}
 use Rattle.controller.proofs.Demand.{last, reachable, queue}
@@ -90,6 +93,13 @@ same-slot e = cc
 refused-no-slot : {n : ℕ} {x : FinishAnswer} → refused n ≡ finished x → ⊥
 refused-no-slot e = let z : _≡_ {A = ℕ} 0 1 = cc in omega arith
 
+-- an answer whose number is not 0 is that refusal
+refusal : (a : Answer) (n : ℕ) → numberOf a ≡ suc n → a ≡ refused (suc n)
+refusal (refused k) n e = ap refused e
+refusal done n e = absurd (omega arith)
+refusal (started s) n e = absurd (omega arith)
+refusal (finished f) n e = absurd (omega arith)
+
 module _ (h : History) where
   -- the slot of the j-th entry that waits in the history's queue
   abbrev unreadSlot : ℕ → ℕ
@@ -103,6 +113,21 @@ module _ (h : History) where
   pub full-waits : (full (cqAt (last h) (h .q) .ring) ≡ true) ↔ (length (unreleased h) ≡ sizeOf h - 1)
   unfolding full
   full-waits = let e = phase.waiting-length (queue h .phase) in (λ f. sym e ∙ eqb-true _ _ f, λ n. eq-eqb _ _ (e ∙ n))
+
+  -- and a finish that posts to the queue is refused with 17 exactly if so many wait and no number before 17 applies
+  pub refused-full : (m : Memory) (tag status result : ℕ) → cqOf (last h) tag ≡ h .q
+      → (perform (last h) m (finish tag status result) .answer ≡ refused 17)
+      ↔ ((length (unreleased h) ≡ sizeOf h - 1) × NoneOf (beforeFull (last h) (length m) tag status))
+  unfolding full
+  refused-full m tag status result e =
+      let c = last h in
+      let k = valid (reachable h) .cq-ok (h .q) (h .exists) in
+      let d = given-exactly (beforeFull c (length m) tag status) (NoFreeSlot (cqAt c (cqOf c tag) .ring)) 17 [] tt tt
+      (finish-refusal (reachable h) m tag status result) in
+      let f = says-iff (says-full (sizeOf h) (cqAt c (h .q) .ring .head) (cqAt c (h .q) .ring .tail) (k .head-below) (k .tail-below)) in (
+        λ a. let x = d .0 (ap numberOf a) in (full-waits .0 (f .1 (rw e at (x .0))), x .1),
+        λ x. refusal (perform c m (finish tag status result) .answer) 16 (d .1 (rw e (f .0 (full-waits .1 (x .0))), x .1)),
+      )
 
   module _ (tag status result j : ℕ) (waits : j < length (unreleased h)) where
     not-tail : unreadSlot j ≡ cqAt (last h) (h .q) .ring .tail → ⊥

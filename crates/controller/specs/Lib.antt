@@ -12,4 +12,5 @@ pub mod Calls
 pub mod Steps
 pub mod Valid
 pub mod Book
+pub mod Refusing
 pub mod Demand
