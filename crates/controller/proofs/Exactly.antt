@@ -1,15 +1,16 @@
 -- Which refusal number a call answers, exactly when: the tables once more, in propositions. Assumes nothing.
 use Prim.Native.Nat.{ℕ, _+_, _*_, _%_, _^_, _≤_, _<_}
-use mathlib.Core.Bool.{Bool, true, false, not, _&&_, _||_}
+use mathlib.Core.Bool.{Bool, true, false, not, _||_}
 use mathlib.Core.List.{[], _∷_, _++_}
 use mathlib.Core.Logic.{_⊎_, inl, inr, ⊎-elim}
 use mathlib.Core.Path.{_≡_, refl, sym, ap, _∙_}
 use native.Mathlib.Omega.{arith}
 use lib.Dec.{T, ltb, ltb→lt, eqb}
 use lib.ListN.{length}
+use borrow.Author.Tests.{lt-ltb}
 use Rattle.rules.specs.Rules.{pick, Table, firstMatch, settle}
 use Rattle.rules.proofs.Tests.{bool-cases, lt-or-ge, not-not, clash, and-true}
-use Rattle.rules.proofs.Tables.{both, numbered, settle-refused, settle-accepted}
+use Rattle.rules.proofs.Tables.{both, numbered, settle-refused}
 use Rattle.rules.proofs.Cases.{pick-cases}
 use Rattle.rules.proofs.Exactly.{Says, says-is, says-lt, says-eq, says-not, says-as, says-and, says-or, says-pick, says-outside}
 use Rattle.rules.proofs.Exactly.{says-iff, says-sure, Reasons, Decided, Matches, decided, NoneOf}
@@ -20,9 +21,9 @@ use Rattle.bits.specs.declared.TakenOne.the-variants.{Tag, NoneFree}
 use Rattle.bits.specs.declared.TakenTwo.{TakenTwo}
 use Rattle.bits.specs.declared.TakenTwo.the-variants.{Tags, TooFew}
 use Rattle.bits.proofs.Some.{some-which}
-use Rattle.bits.proofs.Tags.{OneTaken, one-taken, TwoTaken, two-taken, none-free, too-few, free-pos}
+use Rattle.bits.proofs.Tags.{one-taken, two-taken, none-free, too-few, free-pos}
 use Rattle.le.specs.Memory.{Memory}
-use Rattle.ring.specs.Slots.{next, distance}
+use Rattle.ring.specs.Slots.{next}
 use Rattle.ring.proofs.Exactly.{says-full, TailValue, HeadValue, says-tail, says-head, WrongSize}
 use Rattle.arbiter.specs.Arbiter.{choice}
 use Rattle.arbiter.specs.declared.Arbiter.{Arbiter}
@@ -30,15 +31,15 @@ use Rattle.arbiter.specs.declared.Chosen.{Chosen}
 use Rattle.arbiter.specs.declared.Chosen.the-variants.{Queue, Nobody}
 use Rattle.controller.specs.declared.Ring.{Ring}
 use Rattle.controller.specs.Controller.{Controller}
-use Rattle.controller.specs.State.{sqAt, cqAt, commandAt, outstanding, newRules, newRefusal}
+use Rattle.controller.specs.State.{sqAt, cqAt, commandAt, outstanding, freshController, newRules, newRefusal, newController}
 use Rattle.controller.specs.Rings.{RingTest, existing, someSq, someCq, someRing, shareByte, sharing, shares, endsPast, outside}
 use Rattle.controller.specs.Valid.{Valid}
 use Rattle.controller.specs.Answers.{numberOf, Outcome, refusing}
 use Rattle.controller.specs.Create as create
 use Rattle.controller.specs.Doorbell as doorbell
 use Rattle.controller.specs.Starting as starting
-use Rattle.controller.specs.Starting.{candidates, isPair, headEntry, nextEntry, oneVerdict, pairVerdict, oneTaken, pairTaken, withOne}
-use Rattle.controller.specs.Starting.{withTwo, takeOne, takePair, takeFrom, startRules}
+use Rattle.controller.specs.Starting.{candidateAt, candidates, isPair, headEntry, nextEntry, oneVerdict, pairVerdict, oneTaken}
+use Rattle.controller.specs.Starting.{pairTaken, withOne, withTwo, takeOne, takePair, takeFrom, startRules}
 use Rattle.controller.specs.Finishing as finishing
 use Rattle.controller.specs.Finishing.{cqOf, full}
 use Rattle.controller.specs.Calls.{createCq, createSq, tailWrite, headWrite, start, finish, Reachable, perform}
@@ -160,9 +161,19 @@ module _ {c : Controller} (r : Reachable c) (m : Memory) where
   n = length m
 
   ring-matches : (entry size base : ℕ) → Matches (create.ringRules c n entry size base) (ringReasons c n entry size base)
-  ring-matches entry size base =
-      (refl, says-outside 2 1024 size, λ a. (refl, says-not (says-eq (base % 4096) 0), λ b. (refl, says-lt n (base + entry * size),
-      λ d. (refl, shares-exactly (valid r) base (entry * size), λ e. tt))))
+  ring-matches entry size base = (
+    refl,
+    says-outside 2 1024 size,
+    λ a. (
+      refl,
+      says-not (says-eq (base % 4096) 0),
+      λ b. (
+        refl,
+        says-lt n (base + entry * size),
+        λ d. (refl, shares-exactly (valid r) base (entry * size), λ e. tt),
+      ),
+    ),
+  )
 
   pub create-cq : (id size base : ℕ) → Decided (createCqReasons c n id size base) (number (perform c m (createCq id size base)))
   unfolding create.createCq create.createCqRefusal
@@ -174,9 +185,19 @@ module _ {c : Controller} (r : Reachable c) (m : Memory) where
       → Decided (createSqReasons c n id size base cq class) (number (perform c m (createSq id size base cq class)))
   unfolding create.createSq create.createSqRefusal
   create-sq id size base cq class =
-      settled c m _ (create.createSqRules c n id size base cq class) (createSqReasons c n id size base cq class) [] tt
-      (refl, says-lt 15 id, λ a. (refl, says-is (sqAt c id .ring .exists), λ b. (refl, says-lt 3 class,
-      λ d. (refl, wrong, λ e. ring-matches 64 size base)))) (λ o. refl)
+      settled c m _ (create.createSqRules c n id size base cq class) (createSqReasons c n id size base cq class) [] tt (
+        refl,
+        says-lt 15 id,
+        λ a. (
+          refl,
+          says-is (sqAt c id .ring .exists),
+          λ b. (
+            refl,
+            says-lt 3 class,
+            λ d. (refl, wrong, λ e. ring-matches 64 size base),
+          ),
+        ),
+      ) (λ o. refl)
     where
       wrong : Says (create.wrongCq c id cq) (WrongCq c id cq)
       wrong =
@@ -220,15 +241,23 @@ module _ {c : Controller} (r : Reachable c) (m : Memory) (id v : ℕ) where
       settled c m _ (doorbell.tailRules c id) ((15 < id, 1) ∷ ((k .exists ≡ true → ⊥), 9) ∷ (q .marked ≡ true, 11) ∷ [])
       (((TailValue (k .size) (k .head) (k .tail) v → ⊥), 10) ∷ []) tt
       (refl, says-lt 15 id, λ a. (refl, says-not (says-is (k .exists)), λ b. (refl, says-is (q .marked), λ d. tt)))
-      (λ o. last-row _ _ (says-tail (k .size) (k .head) (k .tail) v (valid r .sq-ok id (not-not (k .exists) (o .1 .0)) .head-below)) refl refl)
+      (λ o. let h = valid r .sq-ok id (not-not (k .exists) (o .1 .0)) in
+      last-row _ _ (says-tail (k .size) (k .head) (k .tail) v (h .head-below)) refl refl)
 
   pub head-write : Decided (headReasons c id v) (number (perform c m (headWrite id v)))
   unfolding doorbell.headWrite doorbell.headRefusal
   head-write =
       let k = cqAt c id .ring in
-      settled c m _ (doorbell.headRules c id v) (headReasons c id v) [] tt
-      (refl, says-lt 15 id, λ a. (refl, says-not (says-is (k .exists)), λ b.
-      (refl, says-not (says-head (k .size) (k .head) (k .tail) v (valid r .cq-ok id (not-not (k .exists) b) .head-below)), λ d. tt)))
+      settled c m _ (doorbell.headRules c id v) (headReasons c id v) [] tt (
+        refl,
+        says-lt 15 id,
+        λ a. (
+          refl,
+          says-not (says-is (k .exists)),
+          λ b.
+              (refl, says-not (says-head (k .size) (k .head) (k .tail) v (valid r .cq-ok id (not-not (k .exists) b) .head-below)), λ d. tt),
+        ),
+      )
       (λ o. refl)
 
 -- ---- start
@@ -236,6 +265,14 @@ module _ {c : Controller} (r : Reachable c) (m : Memory) (id v : ℕ) where
 -- how many commands a start takes from queue id, and so how many tags it needs
 abbrev pub needs : Controller → Memory → ℕ → ℕ
 needs c m id = pick (isPair id (sqAt c id .ring) m) 2 1
+
+-- "A candidate is an unmarked SQ that is not empty."
+pub says-candidate : (c : Controller) (i : ℕ) → (let q = sqAt c i in
+    Says (candidateAt c i) ((q .ring .exists ≡ true) × ((q .marked ≡ true → ⊥) × (q .ring .head ≡ q .ring .tail → ⊥))))
+unfolding candidateAt
+says-candidate c i =
+    let q = sqAt c i in
+    says-and (says-is (q .ring .exists)) (says-and (says-not (says-is (q .marked))) (says-not (says-eq (q .ring .head) (q .ring .tail))))
 
 -- "If the chosen SQ needs more than are free"
 pub record TooFewTags (c : Controller) (m : Memory) : Type 0 where
@@ -295,9 +332,10 @@ module _ {c : Controller} (r : Reachable c) (m : Memory) where
       → Decided ((NoCandidate c, 12) ∷ (TooFewTags c m, 13) ∷ []) (number (takeFrom c m x))
   chosen-decided Nobody e = inl (nobody-waits c (valid r) .0 e, refl)
   chosen-decided (Queue id a) e =
-      inr
-      (λ n. not-nobody e (nobody-waits c (valid r) .1 n),
-      pick-cases (λ o. Decided ((TooFewTags c m, 13) ∷ []) (number o)) (isPair id (sqAt c id .ring) m) _ _ (pair id a e) (one id a e))
+      inr (
+        λ n. not-nobody e (nobody-waits c (valid r) .1 n),
+        pick-cases (λ o. Decided ((TooFewTags c m, 13) ∷ []) (number o)) (isPair id (sqAt c id .ring) m) _ _ (pair id a e) (one id a e),
+      )
 
   pub start-refusal : Decided (startReasons c m) (number (perform c m start))
   unfolding starting.start
@@ -361,13 +399,28 @@ module _ {c : Controller} (r : Reachable c) (m : Memory) (tag status result : �
   pub finish-refusal : Decided (finishReasons c (length m) tag status) (number (perform c m (finish tag status result)))
   unfolding finishing.finish finishing.finishRefusal
   finish-refusal =
-      settled c m _ (finishing.finishRules c (length m) tag status) (finishReasons c (length m) tag status) [] tt
-      (refl, outside-exactly (valid r) (length m), λ a. (refl, says-not (says-out c tag), λ b.
-      let o = says-iff (says-out c tag) .1 (says-sure (says-out c tag) b) in
-      (refl, says-lt 32767 status, λ d. (refl, first-says o, λ e. (refl, full-says o, λ f. tt))))) (λ o. refl)
+      settled c m _ (finishing.finishRules c (length m) tag status) (finishReasons c (length m) tag status) [] tt (
+        refl,
+        outside-exactly (valid r) (length m),
+        λ a. (
+          refl,
+          says-not (says-out c tag),
+          λ b.
+              let o = says-iff (says-out c tag) .1 (says-sure (says-out c tag) b) in
+              (refl, says-lt 32767 status, λ d. (refl, first-says o, λ e. (refl, full-says o, λ f. tt))),
+        ),
+      ) (λ o. refl)
 
 -- ---- a fresh controller
 
 pub new-refusal : (mechanism : ℕ) → Decided ((1 < mechanism, 23) ∷ []) (newRefusal mechanism)
 unfolding newRefusal
 new-refusal mechanism = decided (newRules mechanism) ((1 < mechanism, 23) ∷ []) (refl, says-lt 1 mechanism, λ a. tt)
+
+-- "A controller refused with 23 is one of mechanism 0, word 0, no queues."
+pub new-controller : (word : ℕ)
+    → (newController 0 word ≡ freshController false word)
+    × (newController 1 word ≡ freshController true word)
+    × ((mechanism : ℕ) → 1 < mechanism → newController mechanism word ≡ freshController false 0)
+unfolding newController newRefusal settle
+new-controller word = (refl, refl, λ mechanism h. rw (lt-ltb 1 mechanism h))

@@ -22,5 +22,6 @@ pub mod Demand
 pub mod Unread
 pub mod Undisturbed
 pub mod ThreePasses
+pub mod HostWrites
 pub mod Reaches
 pub mod Settled

@@ -1,5 +1,5 @@
--- Demand 3's premise holds of any calls that follow the creation of a queue on a clear ring, where nobody else writes to memory.
--- Assumes nothing.
+-- Demand 3's premise holds where the first call of a fresh controller creates a completion queue on a clear ring, any calls follow, and
+-- nobody but the controller writes to memory. Assumes nothing.
 use Prim.Native.Nat.{ℕ, zero, suc, _+_, _*_, _/_, _^_, _<_}
 use mathlib.Core.Bool.{Bool, true, false, _&&_}
 use mathlib.Core.List.{List, [], _∷_, _++_}
@@ -48,7 +48,7 @@ bytes-take (suc n) [] x i = lit< tt
 bytes-take (suc n) (v ∷ m) x zero = x 0
 bytes-take (suc n) (v ∷ m) x (suc i) = bytes-take n m (λ j. x (suc j)) i
 
-bytes-put : (m : List ℕ) (place : ℕ) (b : List ℕ) → Bytes m → Bytes b → Bytes (put m place b)
+pub bytes-put : (m : List ℕ) (place : ℕ) (b : List ℕ) → Bytes m → Bytes b → Bytes (put m place b)
 unfolding put
 bytes-put m place b x y =
     bytes-append (take place m) (b ++ drop (place + length b) m) (bytes-take place m x)
@@ -74,7 +74,7 @@ bytes-completion e g =
     grown f 2 _ (grown d 2 _ (grown c 2 _ (grown b 2 _ (grown a 4 _ (bytes-le 4 _)))))
 
 -- whatever a call does, the memory that it leaves holds bytes
-call-bytes : {c : Controller} {m : Memory} {call : Call} {o : Outcome} → Bytes m → Commands c m call o → Bytes (o .memory)
+pub call-bytes : {c : Controller} {m : Memory} {call : Call} {o : Outcome} → Bytes m → Commands c m call o → Bytes (o .memory)
 unfolding oneTaken pairTaken
 call-bytes b (refused-leaves call n xs) = b
 call-bytes b (done-leaves call xs ys) = b

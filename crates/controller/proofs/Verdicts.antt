@@ -7,8 +7,7 @@ use mathlib.Core.Path.{_≡_, refl, subst}
 use native.Mathlib.Nat.{mod-lt}
 use native.Mathlib.Omega.{arith}
 use lib.Dec.{lit<, eqb}
-use lib.ListN.{getD}
-use Rattle.rules.proofs.Exactly.{Says, says-is, says-le, says-eq, says-not, says-as, says-and, says-or, says-sure, Reasons, Decided, decided}
+use Rattle.rules.proofs.Exactly.{Says, says-le, says-eq, says-not, says-as, says-and, says-or, says-sure, Reasons, Decided, decided}
 use Rattle.bits.specs.Bits.{someBelow}
 use Rattle.bits.proofs.Some.{some-which, none-some}
 use Rattle.rules.proofs.Tests.{same-or-not}
@@ -18,7 +17,7 @@ use Rattle.entry.specs.declared.submission.Submission.{Submission}
 use Rattle.ring.specs.Slots.{next, distance}
 use Rattle.controller.specs.declared.Ring.{Ring}
 use Rattle.controller.specs.Controller.{Controller}
-use Rattle.controller.specs.State.{sqAt, commandAt, outstanding}
+use Rattle.controller.specs.State.{sqAt, commandAt}
 use Rattle.controller.specs.Verdict.{uses, inUse, oneRules, verdictOne, pairRules, verdictPair}
 use Rattle.controller.specs.Starting.{entryAt, isPair, used, headEntry, nextEntry, oneTaken, pairTaken}
 use Rattle.controller.specs.Answers.{StartAnswer, Answer, refused, done, started, finished, Outcome}
@@ -151,9 +150,19 @@ module _ (c : Controller) (id : ℕ) (e : Submission) where
   one-decided : Decided oneReasons (verdictOne id e (used c id e))
   unfolding verdictOne
   one-decided =
-      decided (oneRules id e (used c id e)) oneReasons
-      (refl, says-and (says-eq id 0) (says-not (says-eq (e .fuse) 0)), λ a. (refl, says-eq (e .fuse) 3, λ b. (refl, says-eq (e .fuse) 2,
-      λ d. (refl, says-eq (e .fuse) 1, λ f. (refl, says-not (says-eq (e .psdt) 0), λ g. (refl, in-use c id (e .cid), λ h. tt))))))
+      decided (oneRules id e (used c id e)) oneReasons (
+        refl,
+        says-and (says-eq id 0) (says-not (says-eq (e .fuse) 0)),
+        λ a. (
+          refl,
+          says-eq (e .fuse) 3,
+          λ b. (
+            refl,
+            says-eq (e .fuse) 2,
+            λ d. (refl, says-eq (e .fuse) 1, λ f. (refl, says-not (says-eq (e .psdt) 0), λ g. (refl, in-use c id (e .cid), λ h. tt))),
+          ),
+        ),
+      )
 
   pub one-verdict : e .fuse < 4 → OneJudged (verdictOne id e (used c id e))
   one-verdict l =
@@ -223,9 +232,20 @@ module _ (c : Controller) (id : ℕ) (a b : Submission) where
   pair-decided : Decided pairReasons v
   unfolding verdictPair
   pair-decided =
-      decided (pairRules a b (used c id a) (used c id b)) pairReasons
-      (refl, says-not opcodes, λ x. (refl, says-not blocks, λ y. (refl, says-not prps, λ z.
-      (refl, says-or (in-use c id (a .cid)) (says-or (in-use c id (b .cid)) (says-eq (a .cid) (b .cid))), λ w. tt))))
+      decided (pairRules a b (used c id a) (used c id b)) pairReasons (
+        refl,
+        says-not opcodes,
+        λ x. (
+          refl,
+          says-not blocks,
+          λ y. (
+            refl,
+            says-not prps,
+            λ z.
+                (refl, says-or (in-use c id (a .cid)) (says-or (in-use c id (b .cid)) (says-eq (a .cid) (b .cid))), λ w. tt),
+          ),
+        ),
+      )
 
   pub pair-verdict : PairJudged v
   pair-verdict =
@@ -283,10 +303,12 @@ module _ (c : Controller) (m : Memory) where
   told (refused-leaves call n xs) = tt
   told (done-leaves call xs ys) = tt
   told (changes (takes-one id a t left s e w)) =
-      inl (refl, is-pair id (sqAt c id .ring) m .no e, one-verdict c id (headEntry c m id) (fuse-low m (sqAt c id .ring) (sqAt c id .ring .head)))
+      let k = sqAt c id .ring in
+      inl (refl, is-pair id k m .no e, one-verdict c id (headEntry c m id) (fuse-low m k (k .head)))
   told (changes (takes-pair id a t u left s e w)) =
       inr (refl, is-pair id (sqAt c id .ring) m .yes e, pair-verdict c id (headEntry c m id) (nextEntry c m id))
   told (changes (finishes tag status result r)) = tt
 
-pub verdict-answered : {c : Controller} → Reachable c → (m : Memory) {s : StartAnswer} → perform c m start .answer ≡ started s → AsJudged c m s
+pub verdict-answered : {c : Controller} → Reachable c → (m : Memory) {s : StartAnswer}
+    → perform c m start .answer ≡ started s → AsJudged c m s
 verdict-answered {c} r m e = subst (Told c m) e (told c m (of-commands (made c m (valid r .free-64) start)))

@@ -1,5 +1,5 @@
 -- Distances, valid doorbell values and the refusals of the reader and of the plain checks, once more in propositions. Assumes nothing.
-use Prim.Native.Nat.{ℕ, _+_, _-_, _*_, _%_, _≤_, _<_}
+use Prim.Native.Nat.{ℕ, zero, suc, _+_, _-_, _*_, _%_, _≤_, _<_}
 use mathlib.Core.Bool.{Bool, not}
 use mathlib.Core.List.{List, [], _∷_, _++_}
 use mathlib.Core.Logic.{_⊎_, ⊎-elim}
@@ -9,11 +9,11 @@ use native.Mathlib.Omega.{arith}
 use lib.Dec.{eqb}
 use lib.ListN.{length}
 use Rattle.rules.proofs.Tests.{lt-or-ge}
-use Rattle.rules.proofs.Cases.{settle-cases}
+use Rattle.rules.proofs.Cases.{pick-cases, settle-cases}
 use Rattle.rules.proofs.Exactly.{Says, says-lt, says-le, says-eq, says-not, says-as, says-and, says-outside, Reasons, Decided, decided}
-use Rattle.ring.specs.Slots.{next, distance}
+use Rattle.ring.specs.Slots.{next, distance, phaseAfter}
 use Rattle.ring.specs.Doorbell.{validTail, validHead, placeRules, checked, tailCheck, headCheck}
-use Rattle.ring.specs.Reader.{readerRules, readerRefusal, waitingAnswer, ringRead}
+use Rattle.ring.specs.Reader.{phaseIn, readCount, readerRules, readerRefusal, waitingAnswer, ringRead}
 use Rattle.ring.proofs.Wrap.{Wrapped, low, high, wrapped}
 use Rattle.ring.proofs.Steps.{distance-ahead, distance-around, next-on, next-over}
 
@@ -97,9 +97,19 @@ check : (size head tail : ℕ) {valid : Bool} {P : Type 0} → (head < size → 
     → Decided (checkReasons size head tail P) (checked size head tail valid)
 unfolding checked
 check size head tail {valid} {P} s =
-    decided (placeRules size head tail ++ ((not valid, 10) ∷ [])) (checkReasons size head tail P)
-    (refl, says-outside 2 1024 size, λ a. (refl, says-le size head, λ b. (refl, says-le size tail,
-    λ c. (refl, says-not (s (omega (arith, b))), λ d. tt))))
+    decided (placeRules size head tail ++ ((not valid, 10) ∷ [])) (checkReasons size head tail P) (
+      refl,
+      says-outside 2 1024 size,
+      λ a. (
+        refl,
+        says-le size head,
+        λ b. (
+          refl,
+          says-le size tail,
+          λ c. (refl, says-not (s (omega (arith, b))), λ d. tt),
+        ),
+      ),
+    )
 
 pub tail-check : (size head tail v : ℕ) → Decided (checkReasons size head tail (TailValue size head tail v)) (tailCheck size head tail v)
 tail-check size head tail v = check size head tail (says-tail size head tail v)
@@ -119,3 +129,17 @@ reader-refusal ring size head phase =
     let d = decided (readerRules n size head) (readerReasons n size head)
     (refl, says-outside 2 1024 size, λ a. (refl, says-lt n (16 * size), λ b. (refl, says-le size head, λ c. tt))) in
     settle-cases (λ r. Decided (readerReasons n size head) (waitingAnswer r .0)) (readerRefusal n size head) _ _ (λ z. rw z at d) (λ z. d)
+
+-- "at most size - 1 entries"
+count-most : (n : ℕ) (ring : List ℕ) (size p phase : ℕ) → readCount n ring size p phase ≤ n
+unfolding readCount
+count-most zero ring size p phase = omega arith
+count-most (suc n) ring size p phase =
+    let h = count-most n ring size (next size p) (phaseAfter size p phase) in
+    pick-cases (λ (k : ℕ). k ≤ suc n) (eqb (phaseIn ring p) phase) _ _ (λ e. omega arith) (λ e. omega arith)
+
+pub reader-most : (ring : List ℕ) (size head phase : ℕ) → waitingAnswer (ringRead ring size head phase) .1 ≤ size - 1
+unfolding ringRead
+reader-most ring size head phase =
+    settle-cases (λ r. waitingAnswer r .1 ≤ size - 1) (readerRefusal (length ring) size head) _ _
+    (λ z. count-most (size - 1) ring size head (phase % 2)) (λ z. omega arith)
