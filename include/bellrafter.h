@@ -6,7 +6,7 @@
  *     Checks         count the completions that wait in a ring, check a doorbell value, walk the pages of a PRP
  *
  * The first kind works on the state of one controller, which the caller keeps; the others on plain numbers and byte
- * buffers alone. A program may have as many controllers as it likes.
+ * buffers alone. A program may have as many controllers as it likes. docs/RULES.md has the rules that they follow.
  *
  *
  * WHAT HOLDS FOR EVERY CALL
