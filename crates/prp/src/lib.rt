@@ -34,24 +34,24 @@ fn page_offset(address: u64, page: u64) -> u64
     address % page_size(page)
 }
 
-fn pages_touched(prp1: u64, length: u64, page: u64) -> u64
-    requires { ⌜ (page ≤ 4) × ((0 < length) × (length ≤ longest)) ⌝ }
-    ensures { λ r. ⌜ (r ≡ pagesTouched (pageSize page) prp1 length) × ((0 < r) × (r ≤ mostPages)) ⌝ }
+fn pages_touched(prp1: u64, len: u64, page: u64) -> u64
+    requires { ⌜ (page ≤ 4) × ((0 < len) × (len ≤ longest)) ⌝ }
+    ensures { λ r. ⌜ (r ≡ pagesTouched (pageSize page) prp1 len) × ((0 < r) × (r ≤ mostPages)) ⌝ }
 {
-    (page_offset(prp1, page) + length - 1) / page_size(page) + 1
+    (page_offset(prp1, page) + len - 1) / page_size(page) + 1
 }
 
 // The number of the refusal that stands before the walk, or 0.
 fn refusal_before_walk(
     prp1: u64,
-    length: u64,
+    len: u64,
     page: u64,
     address_room: usize,
     count_room: usize,
 ) -> u64
-    ensures { λ r. ⌜ r ≡ firstMatch (beforeWalk prp1 length page «address_room» «count_room») ⌝ }
+    ensures { λ r. ⌜ r ≡ firstMatch (beforeWalk prp1 len page «address_room» «count_room») ⌝ }
 {
-    if length < 1 || MOST_BYTES < length {
+    if len < 1 || MOST_BYTES < len {
         return 20;
     }
     if 4 < page {
@@ -60,7 +60,7 @@ fn refusal_before_walk(
     if prp1 % 4 != 0 {
         return 18;
     }
-    let count = pages_touched(prp1, length, page) as usize;
+    let count = pages_touched(prp1, len, page) as usize;
     if address_room < 8 * count || count_room < 4 * count {
         return 21;
     }
@@ -194,13 +194,13 @@ fn store_addresses(memory: &[u8], prp1: u64, prp2: u64, count: u64, page: u64, a
 }
 
 // Stores the byte counts of the pages touched: all but the last are full from where the data begin.
-fn store_counts(prp1: u64, length: u64, count: u64, page: u64, counts: &mut [u8])
-    requires { ⌜ (page ≤ 4) × ((0 < length) × (0 < count)) ⌝ }
-    requires { do ⌜ (count ≡ pagesTouched (pageSize page) prp1 length) × (4 * count ≤ (← ⟦counts.len()⟧)) ⌝ }
-    ensures { λ _. ⌜ now (counts .exit) ≡ put (now (counts .entry)) 0 (numbers 4 (byteCounts (pageSize page) prp1 length count)) ⌝ }
+fn store_counts(prp1: u64, len: u64, count: u64, page: u64, counts: &mut [u8])
+    requires { ⌜ (page ≤ 4) × ((0 < len) × (0 < count)) ⌝ }
+    requires { do ⌜ (count ≡ pagesTouched (pageSize page) prp1 len) × (4 * count ≤ (← ⟦counts.len()⟧)) ⌝ }
+    ensures { λ _. ⌜ now (counts .exit) ≡ put (now (counts .entry)) 0 (numbers 4 (byteCounts (pageSize page) prp1 len count)) ⌝ }
 {
     let mut room = page_size(page) - page_offset(prp1, page);
-    let mut left = length;
+    let mut left = len;
     let last = (count - 1) as usize;
     for i in 0..last {
         le::put32(counts, 4 * i, room);
@@ -210,32 +210,32 @@ fn store_counts(prp1: u64, length: u64, count: u64, page: u64, counts: &mut [u8]
     le::put32(counts, 4 * last, left);
 }
 
-// Walks the pages of `length` bytes at `prp1`, with the page size number `page`, and stores each page's address in 8 bytes
+// Walks the pages of `len` bytes at `prp1`, with the page size number `page`, and stores each page's address in 8 bytes
 // and its byte count in 4.
 pub fn walk(
     memory: &[u8],
     prp1: u64,
     prp2: u64,
-    length: u64,
+    len: u64,
     page: u64,
     addresses: &mut [u8],
     counts: &mut [u8],
 ) -> Walked
     ensures { λ r. do
-      ⌜ r ≡ answer (pageWalk (now (memory .entry)) prp1 prp2 length page (← ⟦addresses.len()⟧ .entry) (← ⟦counts.len()⟧ .entry)) ⌝ }
+      ⌜ r ≡ answer (pageWalk (now (memory .entry)) prp1 prp2 len page (← ⟦addresses.len()⟧ .entry) (← ⟦counts.len()⟧ .entry)) ⌝ }
     ensures { λ _. do
       ⌜ now (addresses .exit) ≡ put (now (addresses .entry)) 0 (numbers 8 (addressesOf
-          (pageWalk (now (memory .entry)) prp1 prp2 length page (← ⟦addresses.len()⟧ .entry) (← ⟦counts.len()⟧ .entry)))) ⌝ }
-    ensures { λ r. ⌜ now (counts .exit) ≡ put (now (counts .entry)) 0 (numbers 4 (byteCounts (pageSize page) prp1 length (pagesOf r))) ⌝ }
+          (pageWalk (now (memory .entry)) prp1 prp2 len page (← ⟦addresses.len()⟧ .entry) (← ⟦counts.len()⟧ .entry)))) ⌝ }
+    ensures { λ r. ⌜ now (counts .exit) ≡ put (now (counts .entry)) 0 (numbers 4 (byteCounts (pageSize page) prp1 len (pagesOf r))) ⌝ }
 {
-    let refusal = refusal_before_walk(prp1, length, page, addresses.len(), counts.len());
+    let refusal = refusal_before_walk(prp1, len, page, addresses.len(), counts.len());
     if refusal != 0 {
         return Walked::Refused(refusal);
     }
-    let count = pages_touched(prp1, length, page);
+    let count = pages_touched(prp1, len, page);
     let walked = data_pages(memory, prp2, count, page);
     if let Walked::Pages(_, _) = walked {
-        store_counts(prp1, length, count, page, counts);
+        store_counts(prp1, len, count, page, counts);
         store_addresses(memory, prp1, prp2, count, page, addresses);
     }
     walked

@@ -232,26 +232,26 @@ pub extern "C" fn bellrafter_head_check(size: u64, head: u64, tail: u64, value: 
     ring::doorbell::check_head(size, head, tail, value)
 }
 
-// Walks the pages of `length` bytes at `prp1`, with the page size number `page`: 8 bytes of `addresses` and 4 of `counts` for each.
+// Walks the pages of `len` bytes at `prp1`, with the page size number `page`: 8 bytes of `addresses` and 4 of `counts` for each.
 #[no_mangle]
 pub extern "C" fn bellrafter_page_walk(
     memory: &[u8],
     prp1: u64,
     prp2: u64,
-    length: u64,
+    len: u64,
     page: u64,
     addresses: &mut [u8],
     counts: &mut [u8],
 ) -> PagesNumbers
     ensures { λ r. do
       ⌜ r ≡ pagesNumbers (answer
-          (pageWalk (now (memory .entry)) prp1 prp2 length page (← ⟦addresses.len()⟧ .entry) (← ⟦counts.len()⟧ .entry))) ⌝ }
+          (pageWalk (now (memory .entry)) prp1 prp2 len page (← ⟦addresses.len()⟧ .entry) (← ⟦counts.len()⟧ .entry))) ⌝ }
     ensures { λ _. do
       ⌜ now (addresses .exit) ≡ put (now (addresses .entry)) 0 (numbers 8 (addressesOf
-          (pageWalk (now (memory .entry)) prp1 prp2 length page (← ⟦addresses.len()⟧ .entry) (← ⟦counts.len()⟧ .entry)))) ⌝ }
-    ensures { λ r. ⌜ now (counts .exit) ≡ put (now (counts .entry)) 0 (numbers 4 (byteCounts (pageSize page) prp1 length (r .pages))) ⌝ }
+          (pageWalk (now (memory .entry)) prp1 prp2 len page (← ⟦addresses.len()⟧ .entry) (← ⟦counts.len()⟧ .entry)))) ⌝ }
+    ensures { λ r. ⌜ now (counts .exit) ≡ put (now (counts .entry)) 0 (numbers 4 (byteCounts (pageSize page) prp1 len (r .pages))) ⌝ }
 {
-    match prp::walk(memory, prp1, prp2, length, page, addresses, counts) {
+    match prp::walk(memory, prp1, prp2, len, page, addresses, counts) {
         Walked::Pages(pages, reads) => PagesNumbers {
             refusal: 0,
             pages: pages,

@@ -11,7 +11,7 @@ use Rattle.prp.specs.Walk.{beforeWalk}
 use Rattle.prp.proofs.refusal_before_walk.Statement.{statement}
 use Rattle.prp.proofs.refusal_before_walk.Tie as tie
 
-in-range : (c : tie.Else2) → outsideOf 1 longest (c .before .before .args .length) ≡ false
+in-range : (c : tie.Else2) → outsideOf 1 longest (c .before .before .args .len) ≡ false
 in-range c = simp (le-ltb _ _ (c .before .if1 .left), c .if2 .left)
 
 returns : tie.Need-returns
@@ -31,7 +31,7 @@ buffers :
     (t : tie.After-pages-touched) →
     let a = t .before .before .before .before .before .args in
     let n = t .pages-touched .result in
-    firstMatch (beforeWalk (a .prp1) (a .length) (a .page) (a .address-room) (a .count-room))
+    firstMatch (beforeWalk (a .prp1) (a .len) (a .page) (a .address-room) (a .count-room))
     ≡ pick (ltb (a .address-room) (8 * n) || ltb (a .count-room) (4 * n)) 21 0
 unfolding beforeWalk
 buffers t =

@@ -32,17 +32,17 @@ entry l = l .before .before .before .before
 
 -- the byte counts of all pages
 abbrev all : tie.Start Inv-loop μ-loop → List ℕ
-all s = byteCounts (pageSize (s .args .page)) (s .args .prp1) (s .args .length) (s .args .count)
+all s = byteCounts (pageSize (s .args .page)) (s .args .prp1) (s .args .len) (s .args .count)
 
 size : (s : tie.Start Inv-loop μ-loop) → length (all s) ≡ s .args .count
-size s = counts-length (pageSize (s .args .page)) (s .args .prp1) (s .args .length) (s .args .count)
+size s = counts-length (pageSize (s .args .page)) (s .args .prp1) (s .args .len) (s .args .count)
 
 loop-holds : tie.Need-loop-holds Inv-loop μ-loop
 unfolding numbers byteCounts
 loop-holds c =
     let s = c .before .before .before in
     let a = s .args in
-    let ends = ends-touched (pageSize (a .page)) (a .prp1) (a .length) (page-low (a .page)) (s .pre .0 .1 .0) in
+    let ends = ends-touched (pageSize (a .page)) (a .prp1) (a .len) (page-low (a .page)) (s .pre .0 .1 .0) in
     let p = c .before .page-size .ensures .0 in
     let o = c .page-offset .ensures .0 in
     (omega arith, (refl, rw (sub-zero (a .count), sub-zero (a .count - 1), p, o) (refl, rw (s .pre .1 .0) ends)))

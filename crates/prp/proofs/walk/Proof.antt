@@ -18,7 +18,7 @@ entry c = c .before .before .before .before .before
 ready :
     (c : tie.Else1) →
     let a = entry c .args in
-    Accepted (a .prp1) (a .length) (a .page) (length (a .addresses .now)) (length (a .counts .now))
+    Accepted (a .prp1) (a .len) (a .page) (length (a .addresses .now)) (length (a .counts .now))
 ready c = accepted (c .before .refusal-before-walk .ensures) (c .if1 .left)
 
 returns : tie.Need-returns
@@ -47,7 +47,7 @@ pages t =
 walked :
     (t : tie.After-pages-touched) →
     let a = entry (t .before) .args in
-    pageWalk (a .memory .now) (a .prp1) (a .prp2) (a .length) (a .page) (length (a .addresses .now)) (length (a .counts .now)) ≡ pages t
+    pageWalk (a .memory .now) (a .prp1) (a .prp2) (a .len) (a .page) (length (a .addresses .now)) (length (a .counts .now)) ≡ pages t
 unfolding pageWalk
 walked t =
     let e = t .before in
