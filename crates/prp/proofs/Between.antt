@@ -1,18 +1,18 @@
 -- The way through a list: how many pointers are on it, the run of entries that a loop reads of a list page, and where a walk stands
 -- between two reads. The loop that checks a list and the one that stores its addresses both follow it. Assumes nothing.
 use Prim.Native.Nat.{ℕ, zero, suc, _+_, _-_, _*_, _/_, _%_, _≤_, _<_, min}
-use mathlib.Core.Path.{_≡_, refl, sym, ap, subst, _∙_}
+use mathlib.Core.Path.{_≡_, refl, ap, subst, _∙_}
 use mathlib.Core.List.{List, [], _∷_, _++_, append-nil}
-use mathlib.Core.Bool.{true, false}
-use mathlib.Core.Logic.{⊎-elim}
-use native.Mathlib.Nat.{zero-add, mul-suc, mul-le-mul-right, div-le-of-le-mul, add-div-right, mod-lt, mod-add-mod, mod-eq-of-lt}
+use mathlib.Core.Logic.{_≢_, ⊎-elim}
+use native.Mathlib.Nat.{zero-add, mul-suc, mul-le-mul-right, div-le-of-le-mul, add-div-right, mod-lt}
 use native.Mathlib.Omega.{arith}
 use lib.ListN.{length, length-append}
-use Rattle.rules.proofs.Tests.{bool-cases, same-or-not}
+use Rattle.rules.proofs.Tests.{lt-or-ge, same-or-not}
 use Rattle.le.specs.Le.{leAt}
-use Rattle.prp.specs.Walk.{Walk, refused, found, after, list, inMemory}
+use Rattle.prp.specs.Walk.{Walk, refused, found, after, list}
 use Rattle.prp.specs.Answer.{Found}
-use Rattle.prp.proofs.Lists.{after-after, Read, outside, offset, address, last-address, pointer}
+use Rattle.prp.proofs.Touched.{next-place}
+use Rattle.prp.proofs.Lists.{after-after, Read, outside, offset, address, pointer}
 
 -- the pointers from a on, with left pages of data left: a list page has page / 8 entries, and the last of them is one if more than
 -- one page is left there
@@ -27,9 +27,6 @@ pointers-few page a (suc n) low some =
     let pos : 0 < page = omega arith in
     let q : 1 ≤ page / 8 - 1 = omega arith in
     div-le-of-le-mul (page / 8 - 1) (rw mul-suc (omega (arith, mod-lt a pos, mul-le-mul-right n q)))
-
-next-place : (page a : ℕ) → a % page + 8 < page → (a + 8) % page ≡ a % page + 8
-next-place page a h = sym (mod-add-mod a page 8) ∙ mod-eq-of-lt h
 
 -- an address leaves as many, and a pointer one less
 after-address : (page a left : ℕ) → 0 < left → a % page + 8 < page → pointers page (a + 8) (left - 1) ≡ pointers page a left
@@ -84,28 +81,31 @@ module _ {page : ℕ} {m : List ℕ} {a₀ left₀ n a left : ℕ} (t : Between 
   unfolding after
   stops e = t .is ∙ ap (after (t .done) n) e
 
-  pub not-inside : inMemory m a ≡ false → list page m left₀ a₀ ≡ refused 19
+  pub not-inside : length m < a + 8 → list page m left₀ a₀ ≡ refused 19
   not-inside h = stops (outside page m left a (t .some) h)
 
-  pub not-aligned : inMemory m a ≡ true → (leAt 8 m a % page ≡ 0 → ⊥) → list page m left₀ a₀ ≡ refused 18
+  pub not-aligned : a + 8 ≤ length m → leAt 8 m a % page ≢ 0 → list page m left₀ a₀ ≡ refused 18
   not-aligned h g = stops (offset page m left a (t .some) h g)
 
   -- the entry of a good list
   pub good-entry : Found (list page m left₀ a₀) → {e : ℕ} → e ≡ leAt 8 m a → Read page m a e
   unfolding Found
   good-entry f is =
-      let inside = ⊎-elim (λ g. g) (λ g. absurd (subst Found (not-inside g) f)) (bool-cases (inMemory m a)) in
+      let inside = ⊎-elim (λ g. absurd (subst Found (not-inside g) f)) (λ g. g) (lt-or-ge (length m) (a + 8)) in
       let aligned = ⊎-elim (λ g. g) (λ g. absurd (subst Found (not-aligned inside g) f)) (same-or-not (leAt 8 m a % page) 0) in
       record { inside = inside; is = is; aligned = rw is aligned }
 
   module _ {e : ℕ} (d : Read page m a e) where
     -- the entry for the last page of data is an address
-    pub last-is : left ≡ 1 → list page m left a ≡ found (e ∷ []) 1
-    last-is h = last-address d left (t .some) h
+    pub last-is : 4096 ≤ page → left ≡ 1 → list page m left a ≡ found (e ∷ []) 1
+    unfolding list after
+    last-is low h =
+        let none : left - 1 ≡ 0 = omega arith in
+        address d left (t .some) low (λ g. h) ∙ rw none
 
-    pub last : left ≡ 1 → list page m left₀ a₀ ≡ found (t .done ++ (e ∷ [])) (n + 1)
+    pub last : 4096 ≤ page → left ≡ 1 → list page m left₀ a₀ ≡ found (t .done ++ (e ∷ [])) (n + 1)
     unfolding after
-    last h = t .is ∙ ap (after (t .done) n) (last-is h)
+    last low h = t .is ∙ ap (after (t .done) n) (last-is low h)
 
     module _ {a₁ left₁ more : ℕ} (r : Run page a₁ left₁ a left more) where
       -- and so is one before the last of a run
@@ -114,7 +114,7 @@ module _ {page : ℕ} {m : List ℕ} {a₀ left₀ n a left : ℕ} (t : Between 
         inner = omega (arith, t .some, r .some, r .room, r .few)
 
         pub next-is : list page m left a ≡ after (e ∷ []) 1 (list page m (left - 1) (a + 8))
-        next-is = address d left (t .some) inner
+        next-is = address d left (t .some) (r .low) (λ g. omega (arith, inner))
 
         pub next : Between page m a₀ left₀ (n + 1) (a + 8) (left - 1) × Run page a₁ left₁ (a + 8) (left - 1) (more - 1)
         next =
@@ -143,7 +143,7 @@ module _ {page : ℕ} {m : List ℕ} {a₀ left₀ n a left : ℕ} (t : Between 
         end = omega (arith, t .some, r .some, r .room, r .few)
 
         pub follow-is : list page m left a ≡ after [] 1 (list page m left e)
-        follow-is = pointer d left (t .some) (r .low) end h
+        follow-is = pointer d left (omega (arith, t .some)) (r .low) end
 
         pub follow : Between page m a₀ left₀ (n + 1) e left × (pointers page e left < pointers page a₁ left₁)
         follow =

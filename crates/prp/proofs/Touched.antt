@@ -1,10 +1,17 @@
 -- Laws of page sizes, and of the number of pages that a transfer touches. Assumes nothing.
 use Prim.Native.Nat.{ℕ, _+_, _-_, _*_, _/_, _%_, _^_, _≤_, _<_}
-use mathlib.Core.Path.{_≡_, ap, _∙_}
-use native.Mathlib.Nat.{mod-mod-of-dvd, dvd-of-mod-eq-zero, mul-le-mul-left, mod-lt, div-lt-iff-lt-mul, div-add-mod', mul-add-div-right}
+use mathlib.Core.Path.{_≡_, refl, sym, ap, _∙_}
+use native.Mathlib.Nat.{mod-mod-of-dvd, dvd-of-mod-eq-zero, mul-le-mul-left, mod-lt, mod-add-mod, mod-eq-of-lt}
+use native.Mathlib.Nat.{div-lt-iff-lt-mul, div-add-mod', mul-add-div-right}
 use native.Mathlib.Omega.{arith}
 use lib.Pow.{pow-pos, pow-mono}
 use Rattle.prp.specs.Pages.{longest, mostPages, pageSize, pagesTouched}
+
+-- "Page size is 4,096 times 2 to the power 0 to 4"
+pub page-sizes :
+    (pageSize 0 ≡ 4096) × (pageSize 1 ≡ 8192) × (pageSize 2 ≡ 16384) × (pageSize 3 ≡ 32768) × (pageSize 4 ≡ 65536)
+unfolding pageSize
+page-sizes = (refl, refl, refl, refl, refl)
 
 pub page-low : (k : ℕ) → 4096 ≤ pageSize k
 unfolding pageSize
@@ -20,6 +27,10 @@ unfolding pageSize
 page-eight k a =
     let eighth : 4096 * 2 ^ k % 8 ≡ 0 = omega arith in
     (eighth, mod-mod-of-dvd 8 a (dvd-of-mod-eq-zero 8 eighth))
+
+-- the place behind an entry that is not the last of its list page
+pub next-place : (page a : ℕ) → a % page + 8 < page → (a + 8) % page ≡ a % page + 8
+next-place page a h = sym (mod-add-mod a page 8) ∙ mod-eq-of-lt h
 
 module _ (page prp1 len : ℕ) (low : 4096 ≤ page) (some : 0 < len) where
   pos : 0 < page

@@ -1,7 +1,6 @@
 -- Both loops keep the way from the list's start to where they stand. A turn of the outer loop that goes on has followed a pointer.
 use borrow.Author.Needs.{needs}
-use borrow.Author.Tests.{leb-true, not-true, not-false}
-use mathlib.Core.Bool.{true}
+use borrow.Author.Tests.{leb-true, leb-false, not-true, not-false}
 use mathlib.Core.List.{[], _∷_, _++_}
 use mathlib.Core.Path.{_≡_, refl, sym, _∙_}
 use native.Mathlib.Nat.{zero-add, le-of-eq}
@@ -36,14 +35,9 @@ entry l = l .before .before .before .before .before
 
 inside :
     (c : tie.Else1 Inv-loop μ-loop Inv-pages μ-pages) →
-    inMemory (entry (c .before .before) .args .memory .now) (c .before .before .loop .at) ≡ true
-inside c = sym (c .before .in-memory .ensures) ∙ not-false _ (c .if1 .left)
-
-fits :
-    (c : tie.Else1 Inv-loop μ-loop Inv-pages μ-pages) →
     c .before .before .loop .at + 8 ≤ length (entry (c .before .before) .args .memory .now)
 unfolding inMemory
-fits c = leb-true _ _ (inside c)
+inside c = leb-true _ _ (sym (c .before .in-memory .ensures) ∙ not-false _ (c .if1 .left))
 
 -- the entry is not refused
 read :
@@ -92,10 +86,10 @@ loop-again c =
     next (l .loop .inv .0) (read (c .before)) (l .loop .inv .1) (c .if3 .left)
 
 returns : tie.Need-returns Inv-loop μ-loop Inv-pages μ-pages
-unfolding counted
+unfolding counted inMemory
 returns c =
     let l = c .before .before in
-    rw (not-inside (l .loop .inv .0) (sym (c .before .in-memory .ensures) ∙ not-true _ (c .if1 .taken))) refl
+    rw (not-inside (l .loop .inv .0) (leb-false _ _ (sym (c .before .in-memory .ensures) ∙ not-true _ (c .if1 .taken)))) refl
 
 returns-2 : tie.Need-returns-2 Inv-loop μ-loop Inv-pages μ-pages
 unfolding counted
@@ -113,7 +107,7 @@ returns-3 c =
     let t = l .loop .inv .0 in
     let all = t .done ++ (g .before .before .get64 .result ∷ []) in
     let many : 1 + length all ≡ entry l .args .count + 1 = simp length-append (omega (arith, t .many)) in
-    rw (last t (read g) (c .if4 .taken), many, zero-add) refl
+    rw (last t (read g) (page-low (entry l .args .page)) (c .if4 .taken), many, zero-add) refl
 
 pub list-pages-spec : {M : Type 1} → statement M
 list-pages-spec =
@@ -128,7 +122,7 @@ list-pages-spec =
     (λ c κs. search needs)
     loop-holds
     (λ c κs. search needs)
-    (λ c κs. fits c)
+    (λ c κs. inside c)
     add-reads
     (λ c κs. search needs)
     (λ c. search needs)
@@ -136,7 +130,7 @@ list-pages-spec =
     pages-again
     (λ c. search needs)
     (λ c. search needs)
-    (λ c. omega (arith, fits (c .before .before .before .before)))
+    (λ c. omega (arith, inside (c .before .before .before .before)))
     (λ c. search needs)
     loop-again
     returns

@@ -1,7 +1,6 @@
 -- Both loops keep the way from the list's start to where they stand, and what the buffer comes to once the rest of the list is stored.
 -- A turn of the outer loop that goes on has followed a pointer.
 use borrow.Author.Needs.{needs}
-use borrow.Author.Tests.{leb-true}
 use mathlib.Core.List.{List, [], _∷_, _++_}
 use mathlib.Core.Path.{_≡_, refl, ap, _∙_}
 use native.Mathlib.Omega.{arith}
@@ -10,7 +9,7 @@ use lib.ListN.{length}
 use lib.Seq.{sets, length-sets}
 use Rattle.le.specs.Le.{le, leAt}
 use Rattle.prp.specs.Pages.{pageSize}
-use Rattle.prp.specs.Walk.{Walk, after, list, inMemory}
+use Rattle.prp.specs.Walk.{Walk, after, list}
 use Rattle.prp.specs.Answer.{addressesOf, numbers, Found}
 use Rattle.prp.proofs.Touched.{page-low, page-eight}
 use Rattle.prp.proofs.Buffers.{numbers-one, first-then}
@@ -50,9 +49,9 @@ module _
     read = good-entry (t .way) (t .good) is
 
     -- the last address is stored
-    last : left ≡ 1 → sets buf to (le 8 e) ≡ full page m old to₀ a₀ left₀
+    last : 4096 ≤ page → left ≡ 1 → sets buf to (le 8 e) ≡ full page m old to₀ a₀ left₀
     unfolding addressesOf
-    last h = rw (numbers-one 8 e) (rw (last-is (t .way) read h) at (t .kept))
+    last low h = rw (numbers-one 8 e) (rw (last-is (t .way) read low h) at (t .kept))
 
     module _ {a₁ left₁ more : ℕ} (r : Run page a₁ left₁ a left more) where
       -- an address is stored
@@ -114,8 +113,7 @@ loop2-holds c =
 
 -- the entry that is read lies in memory, and its address has room
 fits : (l : tie.At-loop2 Inv-loop2 μ-loop2 Inv-loop μ-loop) → l .loop2 .at + 8 ≤ length (entry l .args .memory .now)
-unfolding inMemory
-fits l = leb-true _ _ (read (copy l) refl .inside)
+fits l = read (copy l) refl .inside
 
 room : (l : tie.At-loop2 Inv-loop2 μ-loop2 Inv-loop μ-loop) → l .loop2 .to + 8 ≤ length (l .loop2 .addresses)
 room l = omega (arith, copy l .way .some, copy l .place, same-size (copy l))
@@ -136,7 +134,8 @@ returns : tie.Need-returns Inv-loop2 μ-loop2 Inv-loop μ-loop
 returns c =
     let t = c .before .before .before .before in
     let g = t .before in
-    c .before .before .put642 .ensures ∙ last (copy (g .before .before)) (g .get642 .ensures .0) (t .if1 .taken)
+    let l = g .before .before in
+    c .before .before .put642 .ensures ∙ last (copy l) (g .get642 .ensures .0) (page-low (entry l .args .page)) (t .if1 .taken)
 
 loop-less : tie.Need-loop-less Inv-loop2 μ-loop2 Inv-loop μ-loop
 loop-less c =
