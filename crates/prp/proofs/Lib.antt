@@ -1,6 +1,9 @@
 pub mod Touched
 pub mod Counts
 pub mod Lists
+pub mod Prp2
+pub mod Addresses
+pub mod Outcomes
 pub mod Between
 pub mod Buffers
 pub mod Whole

@@ -1,26 +1,19 @@
 -- What is known where nothing is refused before the walk, and what the walk's answer tells of its addresses. Assumes nothing.
-use Prim.Native.Nat.{ℕ, _*_, _≤_}
+use Prim.Native.Nat.{ℕ, _%_}
 use mathlib.Core.Path.{_≡_, refl, sym, ap, _∙_}
 use mathlib.Core.List.{[]}
 use native.Mathlib.Omega.{arith}
-use borrow.Author.Tests.{ltb-false}
+use borrow.Author.Tests.{ltb-false, eqb-true}
 use lib.ListN.{length}
 use Rattle.rules.specs.Rules.{firstMatch}
-use Rattle.rules.proofs.Tests.{range, or-false}
+use Rattle.rules.proofs.Tests.{range, or-false, not-no}
 use Rattle.rules.proofs.Tables.{passed}
-use Rattle.prp.specs.Pages.{longest, pageSize, pagesTouched}
+use Rattle.prp.specs.Pages.{longest}
 use Rattle.prp.specs.Walk.{Walk, refused, found, beforeWalk}
 use Rattle.prp.specs.Answer.{answer, pagesOf, addressesOf, Found}
 use Rattle.prp.specs.declared.Walked.{Walked}
 use Rattle.prp.specs.declared.Walked.the-variants.{Pages, Refused}
-
--- a transfer that nothing refuses before the walk
-pub record Accepted (prp1 len k addressRoom countRoom : ℕ) : Type 0 where
-  pub some : 1 ≤ len
-  pub few : len ≤ longest
-  pub size : k ≤ 4
-  pub addresses : 8 * pagesTouched (pageSize k) prp1 len ≤ addressRoom
-  pub counts : 4 * pagesTouched (pageSize k) prp1 len ≤ countRoom
+use Rattle.prp.proofs.Outcomes.{Accepted}
 
 pub accepted :
     {prp1 len k addressRoom countRoom n : ℕ} → n ≡ firstMatch (beforeWalk prp1 len k addressRoom countRoom) → n ≡ 0 →
@@ -28,10 +21,14 @@ pub accepted :
 unfolding beforeWalk
 accepted {prp1} {len} {k} {addressRoom} {countRoom} is h =
     let p = passed (beforeWalk prp1 len k addressRoom countRoom) tt (sym is ∙ h) in
-    let l = range 1 longest len (p .0) in
     let room = or-false _ _ (p .1 .1 .1 .0) in
-    let size = ltb-false 4 k (p .1 .0) in
-    record { some = l .0; few = l .1; size = size; addresses = ltb-false _ _ (room .0); counts = ltb-false _ _ (room .1) }
+    record {
+      right = range 1 longest len (p .0);
+      size = ltb-false 4 k (p .1 .0);
+      aligned = eqb-true (prp1 % 4) 0 (not-no _ (p .1 .1 .0));
+      addresses = ltb-false _ _ (room .0);
+      counts = ltb-false _ _ (room .1);
+    }
 
 -- a refusal has no addresses, and an answer with pages has as many
 pub none-found : (w : Walk) {r : Walked} {number : ℕ} → r ≡ answer w → r ≡ Refused number → (addressesOf w ≡ []) × (pagesOf r ≡ 0)

@@ -13,7 +13,8 @@ use Rattle.le.specs.Memory.{put}
 use Rattle.prp.specs.Pages.{pageSize}
 use Rattle.prp.specs.Walk.{Walk, demand, after, list, dataPages}
 use Rattle.prp.specs.Answer.{addressesOf, numbers, Found}
-use Rattle.prp.proofs.Facts.{pages-length}
+use Rattle.prp.proofs.Touched.{page-low, page-eight}
+use Rattle.prp.proofs.Addresses.{pages-length}
 use Rattle.prp.proofs.Lists.{after-found}
 use Rattle.prp.proofs.Buffers.{numbers-one, first-then, numbers-put}
 use Rattle.prp.proofs.store_addresses.Statement.{statement}
@@ -57,7 +58,10 @@ module _ (s : tie.Start) where
       buf ≡ put (s .args .addresses .now) 0 (numbers 8 (addressesOf walk))
   stored is e f =
       let a = s .args in
-      let len = pages-length (pageSize (a .page)) (a .memory .now) (a .prp1) (a .prp2) (a .count) (search needs) (s .pre .1) in
+      let k = a .page in
+      let p = s .pre .0 .1 in
+      let eight = page-eight k 0 .0 in
+      let len = pages-length (pageSize k) (a .memory .now) (a .prp1) (a .prp2) (page-low k) eight _ (p .0) (p .1 .0) (s .pre .1) in
       f ∙ rw (e, is) (first-then 8 (a .addresses .now) 0 (a .prp1) _) ∙ numbers-put 8 _ (addressesOf walk) (omega (arith, len))
 
 abbrev entry : tie.After-slice-known2 → tie.Start

@@ -7,8 +7,10 @@ use Rattle.le.specs.Memory.{put}
 use Rattle.prp.specs.Pages.{pageSize, split, byteCounts}
 use Rattle.prp.specs.Walk.{Walk, refused, dataPages, pageWalk}
 use Rattle.prp.specs.Answer.{answer, pagesOf, addressesOf, numbers, Found}
-use Rattle.prp.proofs.Facts.{pages-length}
-use Rattle.prp.proofs.Whole.{Accepted, accepted, none-found, all-found}
+use Rattle.prp.proofs.Touched.{page-low, page-eight}
+use Rattle.prp.proofs.Addresses.{pages-length}
+use Rattle.prp.proofs.Outcomes.{Accepted}
+use Rattle.prp.proofs.Whole.{accepted, none-found, all-found}
 use Rattle.prp.proofs.walk.Statement.{statement}
 use Rattle.prp.proofs.walk.Tie as tie
 
@@ -26,7 +28,7 @@ unfolding pageWalk answer addressesOf numbers byteCounts split put
 returns c = rw (← c .before .refusal-before-walk .ensures, settle-refused _ refused _ (c .if1 .taken)) (refl, (refl, refl))
 
 pages-touched-requires : tie.Need-pages-touched-requires
-pages-touched-requires c κs = (ready c .size, (ready c .some, ready c .few))
+pages-touched-requires c κs = (ready c .size, ready c .right)
 
 data-pages-requires : tie.Need-data-pages-requires
 data-pages-requires c κs = (ready (c .before) .size, c .pages-touched .ensures .1)
@@ -63,12 +65,16 @@ good e =
     let t = d .before in
     let a = entry (t .before) .args in
     let f = all-found (pages t) (d .data-pages .ensures (a .prp1)) (e .enum-told .given .1) in
-    (f .0, f .1 ∙ pages-length (pageSize (a .page)) (a .memory .now) (a .prp1) (a .prp2) _ (t .pages-touched .ensures .1 .0) (f .0))
+    let n = t .pages-touched .ensures .1 in
+    let k = a .page in
+    let eight = page-eight k 0 .0 in
+    (f .0, f .1 ∙ pages-length (pageSize k) (a .memory .now) (a .prp1) (a .prp2) (page-low k) eight _ (n .0) (n .1) (f .0))
 
 store-counts-requires : tie.Need-store-counts-requires
 store-counts-requires c κs =
     let t = c .before .before .before .before in
-    ((ready (t .before) .size, (ready (t .before) .some, t .pages-touched .ensures .1 .0)), (t .pages-touched .ensures .0, count-room t))
+    let e = t .pages-touched .ensures in
+    ((ready (t .before) .size, (ready (t .before) .right .0, e .1 .0)), (e .0, count-room t))
 
 store-addresses-requires : tie.Need-store-addresses-requires
 store-addresses-requires c κs =
