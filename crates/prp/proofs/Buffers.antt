@@ -1,15 +1,16 @@
 -- Laws of numbers that are stored one after the other. Assumes nothing.
-use Prim.Native.Nat.{ℕ, zero, suc, _+_, _*_, _≤_}
-use mathlib.Core.Path.{_≡_, ap, sym, _∙_}
+use Prim.Native.Nat.{ℕ, zero, suc, _+_, _*_, _/_, _^_, _≤_, _<_}
+use mathlib.Core.Path.{_≡_, refl, ap, sym, _∙_}
 use mathlib.Core.List.{List, [], _∷_, _++_, append-assoc, append-nil}
-use native.Mathlib.Nat.{mul-suc, zero-add}
+use mathlib.Core.Logic.{inr}
+use native.Mathlib.Nat.{mul-suc, mul-zero, zero-add}
 use native.Mathlib.Omega.{arith}
-use lib.ListN.{length, take, drop, length-append}
+use lib.ListN.{length, getD, take, drop, length-append}
 use lib.Seq.{sets}
-use Rattle.le.specs.Le.{le}
+use Rattle.le.specs.Le.{le, leAt}
 use Rattle.le.specs.Memory.{put}
-use Rattle.le.proofs.Parts.{sets-put}
-use Rattle.le.proofs.Numbers.{length-le, sets-append}
+use Rattle.le.proofs.Parts.{sets-put, put-out}
+use Rattle.le.proofs.Numbers.{length-le, leAt-drop, leAt-field, sets-append}
 use Rattle.prp.specs.Answer.{numbers}
 
 length-numbers : (w : ℕ) (xs : List ℕ) → length (numbers w xs) ≡ w * length xs
@@ -57,3 +58,28 @@ drop-next [] zero e = cc
 drop-next [] (suc i) e = cc
 drop-next (y ∷ xs) zero e = cc
 drop-next (y ∷ xs) (suc i) e = drop-next xs i e
+
+drop-le : (w x : ℕ) (q : List ℕ) → drop w (le w x ++ q) ≡ q
+unfolding le
+drop-le zero x q = refl
+drop-le (suc w) x q = drop-le w (x / 256) q
+
+-- each number is read back from its place
+read-back : (w : ℕ) (xs q : List ℕ) (i : ℕ) → i < length xs → getD xs i 0 < 256 ^ w → leAt w (numbers w xs ++ q) (w * i) ≡ getD xs i 0
+unfolding numbers
+read-back w [] q i l h = absurd (omega arith)
+read-back w (x ∷ xs) q zero l h = rw mul-zero (leAt-field w x 0 _ (numbers w xs ++ q) (append-assoc (le w x) (numbers w xs) q) h)
+read-back w (x ∷ xs) q (suc i) l h =
+    let place : w * suc i ≡ w + w * i = omega (arith, mul-suc w i) in
+    let rest = numbers w xs ++ q in
+    rw (place, append-assoc (le w x) (numbers w xs) q, ← leAt-drop w w (le w x ++ rest) (w * i), drop-le w x rest)
+    (read-back w xs q i (omega arith) h)
+
+-- "It fills N addresses and N byte counts .. leaves the rest of both buffers": numbers of w bytes each, for which there is room
+module _ (w : ℕ) (old xs : List ℕ) (fit : w * length xs ≤ length old) where
+  pub filled : (i : ℕ) → i < length xs → getD xs i 0 < 256 ^ w → leAt w (put old 0 (numbers w xs)) (w * i) ≡ getD xs i 0
+  unfolding put
+  filled i l h = read-back w xs _ i l h
+
+  pub left : (i : ℕ) → w * length xs ≤ i → getD (put old 0 (numbers w xs)) i 0 ≡ getD old i 0
+  left i h = put-out old 0 (numbers w xs) (omega (arith, length-numbers w xs)) i (inr (omega (arith, length-numbers w xs)))

@@ -15,7 +15,7 @@ split-length page room len (suc n) = ap suc (split-length page page (len - min r
 
 pub counts-length : (page prp1 len n : ℕ) → length (byteCounts page prp1 len n) ≡ n
 unfolding byteCounts
-counts-length page prp1 len n = split-length page (page - prp1 % page) len n
+counts-length page prp1 len n = split-length page _ len n
 
 -- the count of the next page, and what is left for those after it
 pub split-next :

@@ -1,11 +1,11 @@
--- What a reader may ask of the pages touched and of the byte counts: the pages are those on which the bytes lie, and the counts add up
--- to the length. Assumes nothing.
+-- What a reader may ask of the pages touched and of the byte counts: the pages are those on which the bytes lie, and the counts say how
+-- many lie on each. Assumes nothing.
 use Prim.Native.Nat.{ℕ, zero, suc, _+_, _-_, _*_, _/_, _%_, _≤_, _<_, min}
 use mathlib.Core.Path.{_≡_}
 use mathlib.Core.List.{List, [], _∷_}
-use native.Mathlib.Nat.{div-mul-le-self, le-div-iff-mul-le, lt-div-mul-add, mul-div-cancel, add-mul, suc-mul, mod-lt}
+use native.Mathlib.Nat.{div-mul-le-self, le-div-iff-mul-le, lt-div-mul-add, mul-div-cancel, add-mul, suc-mul, mod-lt, div-add-mod'}
 use native.Mathlib.Omega.{arith}
-use lib.ListN.{getD}
+use lib.ListN.{getD, take}
 use Rattle.prp.specs.Pages.{pagesTouched, split, byteCounts}
 use Rattle.prp.proofs.Touched.{by-offset}
 
@@ -19,6 +19,14 @@ unfolding split
 split-total page room len zero h = omega arith
 split-total page room len (suc n) h =
     omega (arith, suc-mul n page, split-total page page (len - min room len) n (omega (arith, suc-mul n page)))
+
+split-full :
+    (page room len n i : ℕ) → i < n → room + i * page ≤ len → total (take (suc i) (split page room len n)) ≡ room + i * page
+unfolding split
+split-full page room len zero i l h = absurd (omega arith)
+split-full page room len (suc n) zero l h = omega arith
+split-full page room len (suc n) (suc i) l h =
+    omega (arith, suc-mul i page, split-full page page (len - min room len) n i (omega arith) (omega (arith, suc-mul i page)))
 
 split-within : (page room len n i : ℕ) → room ≤ page → getD (split page room len n) i 0 ≤ page
 unfolding split
@@ -44,6 +52,18 @@ module _ (page prp1 len : ℕ) (low : 4096 ≤ page) where
         let touched : pagesTouched page prp1 len ≡ suc n = omega (arith, by-offset page prp1 len low some) in
         let room : len ≤ page - prp1 % page + n * page = omega (arith, mod-lt prp1 pos, lt-div-mul-add {a = prp1 % page + len - 1} pos) in
         rw touched (split-total page (page - prp1 % page) len n room)
+
+    -- and the pages before another one are filled up to where that one begins
+    pub counts-before :
+        (i : ℕ) → suc i < pagesTouched page prp1 len →
+        prp1 + total (take (suc i) (byteCounts page prp1 len (pagesTouched page prp1 len))) ≡ (prp1 / page + suc i) * page
+    unfolding byteCounts
+    counts-before i h =
+        let room = page - prp1 % page in
+        let x = prp1 % page + len - 1 in
+        let whole : suc i * page ≤ x = le-div-iff-mul-le pos .0 (omega (arith, by-offset page prp1 len low some)) in
+        let full = split-full page room len (pagesTouched page prp1 len) i (omega arith) (omega (arith, suc-mul i page, mod-lt prp1 pos)) in
+        omega (arith, full, add-mul (prp1 / page) (suc i) page, suc-mul i page, mod-lt prp1 pos, div-add-mod' prp1 page)
 
     -- each byte lies on one of the pages touched, counted from the page of the first
     pub covered : (b : ℕ) → prp1 ≤ b → b < prp1 + len → (prp1 / page ≤ b / page) × (b / page < prp1 / page + pagesTouched page prp1 len)
