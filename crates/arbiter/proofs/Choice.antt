@@ -20,10 +20,10 @@ use Rattle.arbiter.specs.declared.Arbiter.{Arbiter}
 use Rattle.arbiter.specs.declared.Candidates.{Candidates}
 use Rattle.arbiter.specs.declared.Next.{Next}
 use Rattle.arbiter.specs.declared.Next.the-variants as N
-use Rattle.arbiter.specs.declared.Turned.{Turned}
-use Rattle.arbiter.specs.declared.Turned.the-variants as T
-use Rattle.arbiter.specs.declared.LevelTurned.{LevelTurned}
-use Rattle.arbiter.specs.declared.LevelTurned.the-variants as L
+use Rattle.arbiter.specs.declared.Turn.{Turn}
+use Rattle.arbiter.specs.declared.Turn.the-variants as T
+use Rattle.arbiter.specs.declared.LevelTurn.{LevelTurn}
+use Rattle.arbiter.specs.declared.LevelTurn.the-variants as L
 use Rattle.arbiter.specs.declared.Chosen.{Chosen}
 use Rattle.arbiter.specs.declared.Chosen.the-variants.{Queue, Nobody}
 use Rattle.arbiter.specs.Word.{burstOf}
@@ -80,11 +80,11 @@ module _ (P : ℕ → Type 0) where
   NextIs b (N.Id i) = (b ≡ true) × P i
   NextIs b N.Nobody = b ≡ false
 
-  abbrev TurnIs : Bool → Turned → Type 0
+  abbrev TurnIs : Bool → Turn → Type 0
   TurnIs b (T.Served i g) = (b ≡ true) × P i
   TurnIs b T.Idle = b ≡ false
 
-  abbrev LevelIs : Bool → LevelTurned → Type 0
+  abbrev LevelIs : Bool → LevelTurn → Type 0
   LevelIs b (L.Served i l) = (b ≡ true) × P i
   LevelIs b L.Idle = b ≡ false
 
@@ -97,15 +97,15 @@ module _ (P : ℕ → Type 0) where
     takes-is full (N.Id i) h = h
     takes-is full N.Nobody h = h
 
-    charged-is : (n : ℕ) (x : Turned) → TurnIs b x → LevelIs b (charged n x)
+    charged-is : (n : ℕ) (x : Turn) → TurnIs b x → LevelIs b (charged n x)
     charged-is n (T.Served i g) h = h
     charged-is n T.Idle h = h
 
-    of-turn-is : (f : Group → Arbiter) (x : Turned) → TurnIs b x → ChosenIs b (ofTurn f x)
+    of-turn-is : (f : Group → Arbiter) (x : Turn) → TurnIs b x → ChosenIs b (ofTurn f x)
     of-turn-is f (T.Served i g) h = h
     of-turn-is f T.Idle h = h
 
-    of-level-is : (f : Level → Arbiter) (x : LevelTurned) → LevelIs b x → ChosenIs b (ofLevel f x)
+    of-level-is : (f : Level → Arbiter) (x : LevelTurn) → LevelIs b x → ChosenIs b (ofLevel f x)
     of-level-is f (L.Served i l) h = h
     of-level-is f L.Idle h = h
 

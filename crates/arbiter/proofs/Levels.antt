@@ -12,7 +12,7 @@ use Rattle.bits.specs.Bits.{isSet, someBelow}
 use Rattle.bits.proofs.First.{first-trailing, first-found}
 use Rattle.arbiter.specs.declared.Remainder.{Remainder}
 use Rattle.arbiter.specs.declared.Level.{Level}
-use Rattle.arbiter.specs.declared.LevelTurned.the-variants.{Idle}
+use Rattle.arbiter.specs.declared.LevelTurn.the-variants.{Idle}
 use Rattle.arbiter.specs.declared.Arbiter.{Arbiter}
 use Rattle.arbiter.specs.declared.Candidates.{Candidates}
 use Rattle.arbiter.specs.Turns.{turn}
@@ -34,10 +34,10 @@ module _ (b : Remainder) (l : Level) (p : ℕ → Bool) where
   unfolding levelTurn
   level-idle e = rw e
 
-  pub level-turned : {full : Remainder} → full ≡ levelFull b (l .credit) → ready l p ≡ true
+  pub level-turn : {full : Remainder} → full ≡ levelFull b (l .credit) → ready l p ≡ true
       → charged (l .credit) (turn full (l .group) p) ≡ levelTurn b l p
   unfolding levelTurn
-  level-turned q e = rw (e, q)
+  level-turn q e = rw (e, q)
 
 module _ (a : Arbiter) (c : Candidates) where
   module _ {x y : Bool} (e : x ≡ someWaits c) (f : y ≡ someReady a c) where

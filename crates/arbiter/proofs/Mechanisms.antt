@@ -4,10 +4,10 @@ use mathlib.Core.Bool.{Bool, true, false}
 use mathlib.Core.Path.{_≡_}
 use Rattle.bits.specs.Bits.{isSet}
 use Rattle.arbiter.specs.declared.Remainder.{Remainder}
-use Rattle.arbiter.specs.declared.Turned.{Turned}
+use Rattle.arbiter.specs.declared.Turn.{Turn}
 use Rattle.arbiter.specs.declared.Level.{Level}
-use Rattle.arbiter.specs.declared.LevelTurned.{LevelTurned}
-use Rattle.arbiter.specs.declared.LevelTurned.the-variants.{Served, Idle}
+use Rattle.arbiter.specs.declared.LevelTurn.{LevelTurn}
+use Rattle.arbiter.specs.declared.LevelTurn.the-variants.{Served, Idle}
 use Rattle.arbiter.specs.declared.Arbiter.{Arbiter}
 use Rattle.arbiter.specs.declared.Candidates.{Candidates}
 use Rattle.arbiter.specs.declared.Chosen.the-variants.{Queue, Nobody}
@@ -15,25 +15,25 @@ use Rattle.arbiter.specs.Word.{burstOf}
 use Rattle.arbiter.specs.Turns.{turn}
 use Rattle.arbiter.specs.Arbiter.{withGroup, withLevels, levelTurn, toppedUp, ofTurn, byGroup, byLevel, byWeight, choice}
 
-pub group-turned : (a : Arbiter) (p : ℕ → Bool) {b : Remainder} {t : Turned} → b ≡ burstOf (a .word) → t ≡ turn b (a .group) p
+pub group-turn : (a : Arbiter) (p : ℕ → Bool) {b : Remainder} {t : Turn} → b ≡ burstOf (a .word) → t ≡ turn b (a .group) p
     → ofTurn (withGroup a) t ≡ byGroup a p
 unfolding byGroup
-group-turned a p q e = rw (e, q)
+group-turn a p q e = rw (e, q)
 
 -- a level's answer s, met with the burst b
-pub level-gave : (l : Level) (p : ℕ → Bool) (w : ℕ) {b : Remainder} {t s : LevelTurned} → b ≡ burstOf w → t ≡ s → t ≡ levelTurn b l p
+pub level-gave : (l : Level) (p : ℕ → Bool) (w : ℕ) {b : Remainder} {t s : LevelTurn} → b ≡ burstOf w → t ≡ s → t ≡ levelTurn b l p
     → s ≡ levelTurn (burstOf w) l p
 level-gave l p w q g e = cc
 
 module _ (a : Arbiter) (c : Candidates) where
   -- a level's answer is t
-  abbrev pub High : LevelTurned → Type 0
+  abbrev pub High : LevelTurn → Type 0
   High t = t ≡ levelTurn (burstOf (a .word)) (a .high) (isSet (c .high))
 
-  abbrev pub Medium : LevelTurned → Type 0
+  abbrev pub Medium : LevelTurn → Type 0
   Medium t = t ≡ levelTurn (burstOf (a .word)) (a .medium) (isSet (c .medium))
 
-  abbrev pub Low : LevelTurned → Type 0
+  abbrev pub Low : LevelTurn → Type 0
   Low t = t ≡ levelTurn (burstOf (a .word)) (a .low) (isSet (c .low))
 
   pub level-high : {i : ℕ} {l : Level} → High (Served i l) → Queue i (withLevels a l (a .medium) (a .low)) ≡ byLevel a c

@@ -6,12 +6,12 @@ use Rattle.rules.specs.Rules.{pick}
 use Rattle.bits.specs.Bits.{isSet, someBelow}
 use Rattle.arbiter.specs.declared.Remainder.{Remainder}
 use Rattle.arbiter.specs.declared.Remainder.the-variants.{Left, NoLimit}
-use Rattle.arbiter.specs.declared.Turned.{Turned}
-use Rattle.arbiter.specs.declared.Turned.the-variants.{Served, Idle}
+use Rattle.arbiter.specs.declared.Turn.{Turn}
+use Rattle.arbiter.specs.declared.Turn.the-variants.{Served, Idle}
 use Rattle.arbiter.specs.declared.Group.{Group}
 use Rattle.arbiter.specs.declared.Level.{Level}
-use Rattle.arbiter.specs.declared.LevelTurned.{LevelTurned}
-use Rattle.arbiter.specs.declared.LevelTurned.the-variants as L
+use Rattle.arbiter.specs.declared.LevelTurn.{LevelTurn}
+use Rattle.arbiter.specs.declared.LevelTurn.the-variants as L
 use Rattle.arbiter.specs.declared.Arbiter.{Arbiter}
 use Rattle.arbiter.specs.declared.Candidates.{Candidates}
 use Rattle.arbiter.specs.declared.Chosen.{Chosen}
@@ -67,12 +67,12 @@ levelFull (Left n) c = Left (min n c)
 levelFull NoLimit c = Left c
 
 -- "serving costs one credit"
-abbrev pub charged : ℕ → Turned → LevelTurned
+abbrev pub charged : ℕ → Turn → LevelTurn
 charged c (Served i g) = L.Served i (record { group = g; credit = c - 1 })
 charged c Idle = L.Idle
 
 -- a level with a candidate and credit takes a turn, at the burst b
-unfoldable pub levelTurn : Remainder → Level → (ℕ → Bool) → LevelTurned
+unfoldable pub levelTurn : Remainder → Level → (ℕ → Bool) → LevelTurn
 levelTurn b l p =
     pick (ready l p) (charged (l .credit) (turn (levelFull b (l .credit)) (l .group) p)) L.Idle
 
@@ -94,11 +94,11 @@ toppedUp a c = pick (someWaits c && not (someReady a c)) (refilled a) a
 -- ---- the choice
 
 -- the queue that a turn of the group, or of a level, names, with the arbiter that is left
-abbrev pub ofTurn : (Group → Arbiter) → Turned → Chosen
+abbrev pub ofTurn : (Group → Arbiter) → Turn → Chosen
 ofTurn f (Served i g) = Queue i (f g)
 ofTurn f Idle = Nobody
 
-abbrev pub ofLevel : (Level → Arbiter) → LevelTurned → Chosen
+abbrev pub ofLevel : (Level → Arbiter) → LevelTurn → Chosen
 ofLevel f (L.Served i l) = Queue i (f l)
 ofLevel f L.Idle = Nobody
 

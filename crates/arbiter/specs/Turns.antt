@@ -9,8 +9,8 @@ use Rattle.arbiter.specs.declared.Remainder.the-variants.{Left, NoLimit}
 use Rattle.arbiter.specs.declared.Group.{Group}
 use Rattle.arbiter.specs.declared.Next.{Next}
 use Rattle.arbiter.specs.declared.Next.the-variants.{Id, Nobody}
-use Rattle.arbiter.specs.declared.Turned.{Turned}
-use Rattle.arbiter.specs.declared.Turned.the-variants.{Served, Idle}
+use Rattle.arbiter.specs.declared.Turn.{Turn}
+use Rattle.arbiter.specs.declared.Turn.the-variants.{Served, Idle}
 
 -- "A group has a turn holder and a remainder, at first holder 15, remainder 0."
 abbrev pub start : Group
@@ -33,16 +33,16 @@ lowered (Left n) = Left (n - 1)
 lowered NoLimit = NoLimit
 
 -- queue i is served out of the remainder r, and holds the turn
-abbrev pub served : ℕ → Remainder → Turned
+abbrev pub served : ℕ → Remainder → Turn
 served i r = Served i (record { holder = i; remainder = lowered r })
 
 -- the next candidate "takes the turn with a full remainder and is served"
-abbrev pub takes : Remainder → Next → Turned
+abbrev pub takes : Remainder → Next → Turn
 takes full (Id i) = served i full
 takes full Nobody = Idle
 
 -- "If the holder is a candidate with remainder above 0, it is served. Otherwise the next candidate .. takes the turn"
-unfoldable pub turn : Remainder → Group → (ℕ → Bool) → Turned
+unfoldable pub turn : Remainder → Group → (ℕ → Bool) → Turn
 turn full g p =
     pick (p (g .holder) && aboveZero (g .remainder))
     (served (g .holder) (g .remainder))

@@ -58,13 +58,13 @@ enum Next {
     Nobody,
 }
 
-// The queue that is served, with what is left of its group, or of its level.
-enum Turned {
+// What a turn of a group, or of a level, comes to: the queue that is served, with what is left of the group or level.
+enum Turn {
     Served(u32, Group),
     Idle,
 }
 
-enum LevelTurned {
+enum LevelTurn {
     Served(u32, Level),
     Idle,
 }
@@ -142,10 +142,10 @@ fn next_turn(mask: u16, holder: u32) -> Next
 }
 
 // Queue `id` is served out of the remainder `r`, and holds the turn.
-fn serve(id: u32, r: Remainder) -> Turned
+fn serve(id: u32, r: Remainder) -> Turn
     ensures { λ s. ⌜ s ≡ served id r ⌝ }
 {
-    Turned::Served(
+    Turn::Served(
         id,
         Group {
             holder: id,
@@ -156,7 +156,7 @@ fn serve(id: u32, r: Remainder) -> Turned
 
 impl Group {
     // The holder goes on, or the next candidate takes the turn with the remainder `full`.
-    fn turn(self, full: Remainder, mask: u16) -> Turned
+    fn turn(self, full: Remainder, mask: u16) -> Turn
         ensures { λ r. ⌜ r ≡ turn full self (isSet mask) ⌝ }
     {
         let holder = self.holder;
@@ -165,7 +165,7 @@ impl Group {
             return serve(holder, left);
         }
         let Next::Id(id) = next_turn(mask, holder) else {
-            return Turned::Idle;
+            return Turn::Idle;
         };
         serve(id, full)
     }
@@ -196,18 +196,18 @@ impl Level {
     }
 
     // A turn at the burst `b`, which costs one credit.
-    fn turn(self, b: Remainder, mask: u16) -> LevelTurned
+    fn turn(self, b: Remainder, mask: u16) -> LevelTurn
         ensures { λ r. ⌜ r ≡ levelTurn b self (isSet mask) ⌝ }
     {
         if !self.is_ready(mask) {
-            return LevelTurned::Idle;
+            return LevelTurn::Idle;
         }
         let credit = self.credit;
         let group = self.group;
-        let Turned::Served(id, next) = group.turn(level_full(b, credit), mask) else {
-            return LevelTurned::Idle;
+        let Turn::Served(id, next) = group.turn(level_full(b, credit), mask) else {
+            return LevelTurn::Idle;
         };
-        LevelTurned::Served(
+        LevelTurn::Served(
             id,
             Level {
                 group: next,
@@ -288,7 +288,7 @@ impl Arbiter {
         ensures { λ r. ⌜ r ≡ byGroup self (isSet mask) ⌝ }
     {
         let group = self.group;
-        let Turned::Served(id, next) = group.turn(burst(self.word), mask) else {
+        let Turn::Served(id, next) = group.turn(burst(self.word), mask) else {
             return Chosen::Nobody;
         };
         self.group = next;
@@ -300,17 +300,17 @@ impl Arbiter {
         ensures { λ r. ⌜ r ≡ byLevel self c ⌝ }
     {
         let high = self.high;
-        if let LevelTurned::Served(id, next) = high.turn(burst(self.word), c.high) {
+        if let LevelTurn::Served(id, next) = high.turn(burst(self.word), c.high) {
             self.high = next;
             return Chosen::Queue(id, self);
         }
         let medium = self.medium;
-        if let LevelTurned::Served(id, next) = medium.turn(burst(self.word), c.medium) {
+        if let LevelTurn::Served(id, next) = medium.turn(burst(self.word), c.medium) {
             self.medium = next;
             return Chosen::Queue(id, self);
         }
         let low = self.low;
-        if let LevelTurned::Served(id, next) = low.turn(burst(self.word), c.low) {
+        if let LevelTurn::Served(id, next) = low.turn(burst(self.word), c.low) {
             self.low = next;
             return Chosen::Queue(id, self);
         }

@@ -1,17 +1,17 @@
 -- `arbiter::Arbiter::choose_group` meets its contract. Assumes nothing.
 use mathlib.Core.Path.{sym, _∙_}
 use borrow.Author.Needs.{needs}
-use Rattle.arbiter.proofs.Mechanisms.{group-turned}
+use Rattle.arbiter.proofs.Mechanisms.{group-turn}
 use Rattle.arbiter.proofs.Arbiter.choose_group.Statement.{statement}
 use Rattle.arbiter.proofs.Arbiter.choose_group.Tie as tie
 
 returns : tie.Need-returns
 returns c =
-    group-turned _ _ (c .before .before .before .burst .ensures) (sym (c .enum-told .given .1) ∙ c .before .before .turn .ensures)
+    group-turn _ _ (c .before .before .before .burst .ensures) (sym (c .enum-told .given .1) ∙ c .before .before .turn .ensures)
 
 returns-2 : tie.Need-returns-2
 returns-2 c =
-    group-turned _ _ (c .before .before .before .before .burst .ensures)
+    group-turn _ _ (c .before .before .before .before .burst .ensures)
     (sym (c .before .id .given .1) ∙ c .before .before .before .turn .ensures)
 
 pub choose-group-spec : {M : Type 1} → statement M

@@ -1,6 +1,6 @@
 -- `arbiter::Arbiter::choose_level` meets its contract. Assumes nothing.
 use borrow.Author.Needs.{needs}
-use Rattle.arbiter.specs.declared.LevelTurned.the-variants.{Idle}
+use Rattle.arbiter.specs.declared.LevelTurn.the-variants.{Idle}
 use Rattle.arbiter.proofs.Mechanisms.{High, Medium, level-gave, level-high, level-medium, level-low, level-none}
 use Rattle.arbiter.proofs.Arbiter.choose_level.Statement.{statement}
 use Rattle.arbiter.proofs.Arbiter.choose_level.Tie as tie

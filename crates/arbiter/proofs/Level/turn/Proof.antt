@@ -6,7 +6,7 @@ use borrow.Author.Needs.{needs}
 use Rattle.rules.proofs.Tests.{not-yes, not-no}
 use Rattle.bits.specs.Bits.{isSet}
 use Rattle.arbiter.specs.Arbiter.{ready, charged}
-use Rattle.arbiter.proofs.Levels.{ready-parts, level-idle, level-turned}
+use Rattle.arbiter.proofs.Levels.{ready-parts, level-idle, level-turn}
 use Rattle.arbiter.proofs.Level.turn.Statement.{statement}
 use Rattle.arbiter.proofs.Level.turn.Tie as tie
 
@@ -19,7 +19,7 @@ isReady c = sym (c .before .is-ready .ensures) ∙ not-no _ (c .if1 .left)
 returns-2 : tie.Need-returns-2
 returns-2 c =
     ap (charged _) (sym (c .enum-told .given .1) ∙ c .before .before .turn .ensures)
-    ∙ level-turned _ _ _ (c .before .before .before .level-full .ensures) (isReady (c .before .before .before .before .before))
+    ∙ level-turn _ _ _ (c .before .before .before .level-full .ensures) (isReady (c .before .before .before .before .before))
 
 sub-t12 : tie.Need-sub-t12
 sub-t12 c = omega (arith, ready-parts _ _ (isReady (c .before .before .before .before .before .before)) .1)
@@ -27,7 +27,7 @@ sub-t12 c = omega (arith, ready-parts _ _ (isReady (c .before .before .before .b
 returns-3 : tie.Need-returns-3
 returns-3 c =
     ap (charged _) (sym (c .before .id .given .1) ∙ c .before .before .before .turn .ensures)
-    ∙ level-turned _ _ _ (c .before .before .before .before .level-full .ensures)
+    ∙ level-turn _ _ _ (c .before .before .before .before .level-full .ensures)
     (isReady (c .before .before .before .before .before .before))
 
 pub turn-spec : {M : Type 1} → statement M
