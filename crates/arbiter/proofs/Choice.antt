@@ -29,7 +29,8 @@ use Rattle.arbiter.specs.declared.Chosen.the-variants.{Queue, Nobody}
 use Rattle.arbiter.specs.Word.{burstOf}
 use Rattle.arbiter.specs.Turns.{nextAfter, aboveZero, takes, turn}
 use Rattle.arbiter.specs.Arbiter.{withGroup, withLevels, refilled, some, ready, levelFull, charged, levelTurn, someWaits, someReady}
-use Rattle.arbiter.specs.Arbiter.{toppedUp, ofTurn, ofLevel, orElse, byGroup, byLevel, byWeight, choice, refusalOf, anyone}
+use Rattle.arbiter.specs.Arbiter.{toppedUp, ofTurn, ofLevel, orElse, byGroup, byLevel, byWeight, choice, chosenAnswer}
+use Rattle.arbiter.specs.Arbiter.{anyone, choiceRefusal}
 use Rattle.arbiter.proofs.Levels.{ready-parts, topped-refilled, topped-kept}
 
 -- ---- whether there is a candidate
@@ -210,12 +211,35 @@ module _ (P : ℕ → Type 0) where
         go (Queue i b) h e = absurd (clash (h .0) e)
         go Nobody h e = refl
 
-    pub refusal : (a : Arbiter) → refusalOf (choice a c) ≡ pick (anyone a c) 0 12
+    pub refusal : (a : Arbiter) → chosenAnswer a (choice a c) .0 ≡ choiceRefusal a c
     refusal a = go (choice a c) (choice-is a)
       where
-        go : (x : Chosen) → ChosenIs (anyone a c) x → refusalOf x ≡ pick (anyone a c) 0 12
+        go : (x : Chosen) → ChosenIs (anyone a c) x → chosenAnswer a x .0 ≡ choiceRefusal a c
         go (Queue i b) h = rw (h .0)
         go Nobody h = rw h
+
+-- ---- masks of 16 bits name no other queues than 0 to 15, and then the answer has document 01's number
+
+pub record Fits (c : Candidates) : Type 0 where
+  pub all : c .all < 2 ^ 16
+  pub urgent : c .urgent < 2 ^ 16
+  pub high : c .high < 2 ^ 16
+  pub medium : c .medium < 2 ^ 16
+  pub low : c .low < 2 ^ 16
+
+module _ (c : Candidates) (f : Fits c) where
+  pub fits-within : Within (λ i. i < 16) c
+  fits-within =
+      record {
+        all = λ i. set-within 16 (c .all) i (f .all);
+        urgent = λ i. set-within 16 (c .urgent) i (f .urgent);
+        high = λ i. set-within 16 (c .high) i (f .high);
+        medium = λ i. set-within 16 (c .medium) i (f .medium);
+        low = λ i. set-within 16 (c .low) i (f .low);
+      }
+
+  pub answered : (a : Arbiter) {x : Chosen} → x ≡ choice a c → (x ≡ choice a c) × (chosenAnswer a x .0 ≡ choiceRefusal a c)
+  answered a e = (e, ap (λ y. chosenAnswer a y .0) e ∙ refusal (λ i. i < 16) (λ i h. h) c fits-within a)
 
 -- ---- where the masks of the classes are parts of the mask of all queues, the queue that is named is in that mask
 

@@ -1,8 +1,9 @@
 -- The two arbitration mechanisms: which queue is served next, and the arbiter that is left.
 use Prim.Native.Nat.{ℕ, _-_, min}
 use mathlib.Core.Bool.{Bool, _&&_, _||_, not}
+use mathlib.Core.List.{[], _∷_}
 use lib.Dec.{ltb}
-use Rattle.rules.specs.Rules.{pick}
+use Rattle.rules.specs.Rules.{pick, firstMatch}
 use Rattle.bits.specs.Bits.{isSet, someBelow}
 use Rattle.arbiter.specs.declared.Remainder.{Remainder}
 use Rattle.arbiter.specs.declared.Remainder.the-variants.{Left, NoLimit}
@@ -129,12 +130,18 @@ byWeight a c =
 unfoldable pub choice : Arbiter → Candidates → Chosen
 choice a c = pick (a .weighted) (byWeight a c) (byGroup a (isSet (c .all)))
 
--- "no SQ is a candidate" is refusal 12; 0 is no refusal
-abbrev pub refusalOf : Chosen → ℕ
-refusalOf (Queue i a) = 0
-refusalOf Nobody = 12
+-- ---- document 01's number and values for each answer
+
+-- 0, the queue that is served and the arbiter that is left; 12, no queue and the arbiter as it was
+abbrev pub chosenAnswer : Arbiter → Chosen → ℕ × ℕ × Arbiter
+chosenAnswer a (Queue i left) = (0, i, left)
+chosenAnswer a Nobody = (12, 0, a)
 
 -- a candidate is among the queues that the mechanism looks at
 unfoldable pub anyone : Arbiter → Candidates → Bool
 anyone a c =
     pick (a .weighted) (isSet (c .all) 0 || some (isSet (c .urgent)) || someWaits c) (some (isSet (c .all)))
+
+-- "no SQ is a candidate"
+abbrev pub choiceRefusal : Arbiter → Candidates → ℕ
+choiceRefusal a c = firstMatch ((not (anyone a c), 12) ∷ [])

@@ -6,7 +6,7 @@ ghost use Rattle.bits.specs.Bits.{isSet};
 ghost use Rattle.arbiter.specs.Word.{burstOf, weightAt};
 ghost use Rattle.arbiter.specs.Turns.{nextAfter, aboveZero, lowered, served, turn};
 ghost use Rattle.arbiter.specs.Arbiter.{some, levelFull, ready, levelTurn, fresh, refilled, someWaits, someReady, toppedUp, byGroup};
-ghost use Rattle.arbiter.specs.Arbiter.{byLevel, byWeight, choice};
+ghost use Rattle.arbiter.specs.Arbiter.{byLevel, byWeight, choice, chosenAnswer, choiceRefusal};
 
 // What is left of a turn.
 pub enum Remainder {
@@ -334,6 +334,7 @@ impl Arbiter {
     // The queue to serve next.
     pub fn choose(self, c: Candidates) -> Chosen
         ensures { λ r. ⌜ r ≡ choice self c ⌝ }
+        ensures { λ r. ⌜ chosenAnswer self r .0 ≡ choiceRefusal self c ⌝ }
     {
         if self.weighted {
             self.choose_weighted(c)

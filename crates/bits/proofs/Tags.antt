@@ -8,12 +8,13 @@ use native.Mathlib.Omega.{arith}
 use lib.Count.{ones, trailing-of-zero}
 use lib.Dec.{ltb}
 use borrow.Author.Tests.{lt-ltb, le-ltb, le-leb, lt-leb}
-use Rattle.rules.specs.Rules.{pick}
 use Rattle.rules.proofs.Tests.{bool-cases, lt-or-ge, clash}
+use Rattle.bits.specs.declared.TakenOne.{TakenOne}
 use Rattle.bits.specs.declared.TakenOne.the-variants.{Tag, NoneFree}
+use Rattle.bits.specs.declared.TakenTwo.{TakenTwo}
 use Rattle.bits.specs.declared.TakenTwo.the-variants.{Tags, TooFew}
 use Rattle.bits.specs.Bits.{isSet}
-use Rattle.bits.specs.Tags.{freeCount, lowest, lowestAbove, without, takenOne, takenTwo, givenBack, oneRefusal, twoRefusal}
+use Rattle.bits.specs.Tags.{freeCount, lowest, lowestAbove, without, takenOne, takenTwo, givenBack, oneAnswer, twoAnswer, tagRefusal}
 use Rattle.bits.proofs.Bits.{add-same, add-other, add-fits, sub-same, sub-other, ones-sub}
 use Rattle.bits.proofs.First.{first-is, first-hit, first-below, first-trailing, first-found, ones-zero, count-ones}
 
@@ -82,10 +83,14 @@ module _ (m : ℕ) (h : m < 2 ^ 64) where
     λ p. omega (arith, lowest-taken p .fewer),
   )
 
-  pub one-refusal : oneRefusal (takenOne m) ≡ pick (ltb (freeCount m) 1) 13 0
+  one-refusal : oneAnswer m (takenOne m) .0 ≡ tagRefusal 1 m
   one-refusal =
       ⊎-elim (λ (z : m ≡ 0). rw (← one-none z, free-none z)) (λ (p : 0 < m). rw (← one-some p, le-ltb (freeCount m) 1 (free-pos .1 p)))
       (eq-zero-or-pos m)
+
+  -- the answer, with document 01's number
+  pub one-answered : {x : TakenOne} → x ≡ takenOne m → (x ≡ takenOne m) × (oneAnswer m x .0 ≡ tagRefusal 1 m)
+  one-answered e = (e, ap (λ y. oneAnswer m y .0) e ∙ one-refusal)
 
 -- ---- two tags: one after the other
 
@@ -154,10 +159,13 @@ module _ (m : ℕ) (h : m < 2 ^ 64) where
       never : {t u left : ℕ} → takenTwo m ≡ TooFew → Tags t u left ≡ takenTwo m → freeCount m < 2
       never e q = let n : _≡_ {A = ℕ} 0 1 = cc in absurd (omega arith)
 
-  pub two-refusal : twoRefusal (takenTwo m) ≡ pick (ltb (freeCount m) 2) 13 0
+  two-refusal : twoAnswer m (takenTwo m) .0 ≡ tagRefusal 2 m
   two-refusal =
       ⊎-elim (λ (l : freeCount m < 2). rw (← two-none l, lt-ltb (freeCount m) 2 l))
       (λ (l : 2 ≤ freeCount m). rw (← two-some l, le-ltb (freeCount m) 2 l)) (lt-or-ge (freeCount m) 2)
+
+  pub two-answered : {x : TakenTwo} → x ≡ takenTwo m → (x ≡ takenTwo m) × (twoAnswer m x .0 ≡ tagRefusal 2 m)
+  two-answered e = (e, ap (λ y. twoAnswer m y .0) e ∙ two-refusal)
 
 -- ---- a tag given back
 

@@ -1,8 +1,9 @@
 -- The mask of free tags. There are 64 tags, 0 to 63.
 use Prim.Native.Nat.{ℕ, _+_, _-_, _^_}
 use mathlib.Core.Bool.{Bool, _&&_, not}
+use mathlib.Core.List.{[], _∷_}
 use lib.Dec.{ltb, leb}
-use Rattle.rules.specs.Rules.{pick}
+use Rattle.rules.specs.Rules.{pick, firstMatch}
 use Rattle.bits.specs.declared.TakenOne.{TakenOne}
 use Rattle.bits.specs.declared.TakenOne.the-variants.{Tag, NoneFree}
 use Rattle.bits.specs.declared.TakenTwo.{TakenTwo}
@@ -43,11 +44,18 @@ takenTwo m =
 unfoldable pub givenBack : ℕ → ℕ → ℕ
 givenBack m t = pick (ltb t 64 && not (isFree m t)) (m + 2 ^ t) m
 
--- "too few free tags" is refusal 13; 0 is no refusal
-abbrev pub oneRefusal : TakenOne → ℕ
-oneRefusal (Tag t left) = 0
-oneRefusal NoneFree = 13
+-- ---- document 01's number and values for each answer
 
-abbrev pub twoRefusal : TakenTwo → ℕ
-twoRefusal (Tags t u left) = 0
-twoRefusal TooFew = 13
+-- 0, the tag and the mask that is left; 13, no tag and the mask as it was
+abbrev pub oneAnswer : ℕ → TakenOne → ℕ × ℕ × ℕ
+oneAnswer m (Tag t left) = (0, t, left)
+oneAnswer m NoneFree = (13, 0, m)
+
+-- 0, both tags and the mask that is left; 13, no tags and the mask as it was
+abbrev pub twoAnswer : ℕ → TakenTwo → ℕ × ℕ × ℕ × ℕ
+twoAnswer m (Tags t u left) = (0, t, u, left)
+twoAnswer m TooFew = (13, 0, 0, m)
+
+-- "too few free tags": n are needed
+abbrev pub tagRefusal : ℕ → ℕ → ℕ
+tagRefusal n m = firstMatch ((ltb (freeCount m) n, 13) ∷ [])

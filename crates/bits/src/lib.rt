@@ -3,7 +3,7 @@ ghost use mathlib.Core.Path.{_≡_};
 ghost use mathlib.Core.Bool.{true};
 ghost use Prim.Native.Nat.{_<_};
 ghost use Rattle.bits.specs.Bits.{isSet};
-ghost use Rattle.bits.specs.Tags.{isFree, without, takenOne, takenTwo, givenBack};
+ghost use Rattle.bits.specs.Tags.{isFree, without, takenOne, takenTwo, givenBack, oneAnswer, twoAnswer, tagRefusal};
 
 // Whether bit `n` is set, for a number of any size: no bit from 64 on is.
 pub fn is_set(mask: u64, n: u64) -> bool
@@ -38,6 +38,7 @@ pub enum TakenOne {
 
 pub fn take_one(mask: u64) -> TakenOne
     ensures { λ r. ⌜ r ≡ takenOne mask ⌝ }
+    ensures { λ r. ⌜ oneAnswer mask r .0 ≡ tagRefusal 1 mask ⌝ }
 {
     if mask == 0 {
         return TakenOne::NoneFree;
@@ -54,6 +55,7 @@ pub enum TakenTwo {
 
 pub fn take_two(mask: u64) -> TakenTwo
     ensures { λ r. ⌜ r ≡ takenTwo mask ⌝ }
+    ensures { λ r. ⌜ twoAnswer mask r .0 ≡ tagRefusal 2 mask ⌝ }
 {
     if u64::count_ones(mask) < 2 {
         return TakenTwo::TooFew;

@@ -6,7 +6,7 @@ use lib.Dec.{leb, eqb}
 use lib.ListN.{length, set}
 use Rattle.rules.specs.Rules.{pick, Table, firstMatch, settle}
 use Rattle.bits.specs.Bits.{maskOf}
-use Rattle.bits.specs.Tags.{takenOne, takenTwo, oneRefusal, twoRefusal}
+use Rattle.bits.specs.Tags.{takenOne, takenTwo, oneAnswer, twoAnswer}
 use Rattle.bits.specs.declared.TakenOne.{TakenOne}
 use Rattle.bits.specs.declared.TakenOne.the-variants.{Tag, NoneFree}
 use Rattle.bits.specs.declared.TakenTwo.{TakenTwo}
@@ -15,7 +15,7 @@ use Rattle.le.specs.Memory.{Memory, part}
 use Rattle.entry.specs.Submission.{submissionAt}
 use Rattle.entry.specs.declared.submission.Submission.{Submission}
 use Rattle.ring.specs.Slots.{next, distance}
-use Rattle.arbiter.specs.Arbiter.{choice, refusalOf}
+use Rattle.arbiter.specs.Arbiter.{choice, chosenAnswer}
 use Rattle.arbiter.specs.declared.Arbiter.{Arbiter}
 use Rattle.arbiter.specs.declared.Candidates.{Candidates}
 use Rattle.arbiter.specs.declared.Chosen.{Chosen}
@@ -85,11 +85,11 @@ pairTaken c m id a e f v t u left =
 
 -- "If the chosen SQ needs more than are free, the answer is 13."
 abbrev pub withOne : Controller → Memory → (ℕ → ℕ → Outcome) → TakenOne → Outcome
-withOne c m f NoneFree = refusing c m (oneRefusal NoneFree)
+withOne c m f NoneFree = refusing c m (oneAnswer (c .free) NoneFree .0)
 withOne c m f (Tag t left) = f t left
 
 abbrev pub withTwo : Controller → Memory → (ℕ → ℕ → ℕ → Outcome) → TakenTwo → Outcome
-withTwo c m f TooFew = refusing c m (twoRefusal TooFew)
+withTwo c m f TooFew = refusing c m (twoAnswer (c .free) TooFew .0)
 withTwo c m f (Tags t u left) = f t u left
 
 -- whether the CID of an entry of queue id is in use
@@ -122,7 +122,7 @@ takePair c m id a =
 
 -- "One start takes one command, or a whole pair": from the queue chosen, and 12 where there is none
 abbrev pub takeFrom : Controller → Memory → Chosen → Outcome
-takeFrom c m C.Nobody = refusing c m (refusalOf C.Nobody)
+takeFrom c m C.Nobody = refusing c m (chosenAnswer (c .arbiter) C.Nobody .0)
 takeFrom c m (C.Queue id a) = pick (isPair id (sqAt c id .ring) m) (takePair c m id a) (takeOne c m id a)
 
 -- "start 5, 12, 13": 12 and 13 are answered by the choice and by the tags

@@ -44,7 +44,7 @@ choice-is : (c : tie.After-choose)
 choice-is c =
     let a = c .before in
     sym
-    (c .choose .ensures ∙ ap (choice _) (a .before .before .candidates-of .ensures)
+    (c .choose .ensures .0 ∙ ap (choice _) (a .before .before .candidates-of .ensures)
     ∙ ap (λ x. choice x (candidates (held (begun c .args .state .now)))) (a .arbiter-of .ensures))
 
 -- it exists, and its ring is sound and lies in the memory

@@ -18,10 +18,10 @@ abbrev tag : tie.After-known-told → tie.After-take-one
 tag c = c .before .before .before
 
 found : (c : tie.After-take-one) → takenOne (held (entry c .args .state .now) .free) ≡ c .take-one .result
-found c = sym (c .take-one .ensures ∙ ap takenOne (c .before .free-of .ensures))
+found c = sym (c .take-one .ensures .0 ∙ ap takenOne (c .before .free-of .ensures))
 
 low : (c : tie.After-known-told) → c .before .tag .given .0 .0 < 64
-low c = one-taken _ (search needs) (sym (tag c .take-one .ensures) ∙ c .before .tag .given .1) .low
+low c = one-taken _ (search needs) (sym (tag c .take-one .ensures .0) ∙ c .before .tag .given .1) .low
 
 none-free : tie.Need-returns
 none-free c =

@@ -19,11 +19,11 @@ abbrev tags : tie.After-known-told → tie.After-take-two
 tags c = c .before .before .before
 
 found : (c : tie.After-take-two) → takenTwo (held (entry c .args .state .now) .free) ≡ c .take-two .result
-found c = sym (c .take-two .ensures ∙ ap takenTwo (c .before .free-of .ensures))
+found c = sym (c .take-two .ensures .0 ∙ ap takenTwo (c .before .free-of .ensures))
 
 low : (c : tie.After-known-told) → (c .before .first .given .0 .0 < 64) × (c .before .first .given .0 .1 .0 < 64)
 low c =
-    let w = two-taken _ (search needs) (sym (tags c .take-two .ensures) ∙ c .before .first .given .1) in
+    let w = two-taken _ (search needs) (sym (tags c .take-two .ensures .0) ∙ c .before .first .given .1) in
     (w .first .low, w .second .low)
 
 -- past the head's move, and past the first command
