@@ -51,6 +51,13 @@ module _ (p : ℕ → Bool) where
       (λ (e : p at ≡ false). ⊎-elim (λ (q : at ≡ j). ap p (sym q) ∙ e)
       (λ (q : at < j). first-below (suc at) n j q (omega (arith, first-no at n e))) (eq-or-lt-of-le l)) (bool-cases (p at))
 
+  pub first-from : (at n : ℕ) → at ≤ first p at n
+  unfolding first
+  first-from at zero = omega arith
+  first-from at (suc n) =
+      ⊎-elim (λ (e : p at ≡ true). omega (arith, first-yes at n e))
+      (λ (e : p at ≡ false). omega (arith, first-no at n e, first-from (suc at) n)) (bool-cases (p at))
+
 -- ---- a test in place of another, and a test one further on
 
 module _ (p q : ℕ → Bool) (e : (j : ℕ) → p j ≡ q j) where

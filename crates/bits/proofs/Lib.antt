@@ -2,4 +2,5 @@ pub mod Bits
 pub mod First
 pub mod Masks
 pub mod Tags
+pub mod Lowest
 pub mod Some

@@ -6,7 +6,6 @@ use mathlib.Core.Path.{_≡_, sym, ap, _∙_}
 use native.Mathlib.Nat.{eq-zero-or-pos}
 use native.Mathlib.Omega.{arith}
 use lib.Count.{ones, trailing-of-zero}
-use lib.Dec.{ltb}
 use borrow.Author.Tests.{lt-ltb, le-ltb, le-leb, lt-leb}
 use Rattle.rules.proofs.Tests.{bool-cases, lt-or-ge, clash}
 use Rattle.bits.specs.declared.TakenOne.{TakenOne}
