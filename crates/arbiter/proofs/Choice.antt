@@ -81,11 +81,11 @@ module _ (P : ℕ → Type 0) where
   NextIs b (N.Id i) = (b ≡ true) × P i
   NextIs b N.Nobody = b ≡ false
 
-  abbrev TurnIs : Bool → Turn → Type 0
+  abbrev pub TurnIs : Bool → Turn → Type 0
   TurnIs b (T.Served i g) = (b ≡ true) × P i
   TurnIs b T.Idle = b ≡ false
 
-  abbrev LevelIs : Bool → LevelTurn → Type 0
+  abbrev pub LevelIs : Bool → LevelTurn → Type 0
   LevelIs b (L.Served i l) = (b ≡ true) × P i
   LevelIs b L.Idle = b ≡ false
 
@@ -137,7 +137,7 @@ module _ (P : ℕ → Type 0) where
         let s : (h + d) % 16 ≡ i = omega arith in ap p (sym s) ∙ first-below q 1 16 d (omega arith) (omega arith))))
         (bool-cases (ltb (first q 1 16) 17))
 
-    turn-is : (full : Remainder) (g : Group) → TurnIs (some p) (turn full g p)
+    pub turn-is : (full : Remainder) (g : Group) → TurnIs (some p) (turn full g p)
     unfolding turn
     turn-is full g =
         ⊎-elim
@@ -147,7 +147,7 @@ module _ (P : ℕ → Type 0) where
         (takes-is (some p) full (nextAfter p (g .holder)) (next-is (g .holder))))
         (bool-cases (p (g .holder) && aboveZero (g .remainder)))
 
-    level-is : (b : Remainder) (l : Level) → LevelIs (ready l p) (levelTurn b l p)
+    pub level-is : (b : Remainder) (l : Level) → LevelIs (ready l p) (levelTurn b l p)
     unfolding levelTurn
     level-is b l =
         let full = levelFull b (l .credit) in
@@ -211,7 +211,7 @@ module _ (P : ℕ → Type 0) where
         go (Queue i b) h e = absurd (clash (h .0) e)
         go Nobody h e = refl
 
-    pub refusal : (a : Arbiter) → chosenAnswer a (choice a c) .0 ≡ choiceRefusal a c
+    refusal : (a : Arbiter) → chosenAnswer a (choice a c) .0 ≡ choiceRefusal a c
     refusal a = go (choice a c) (choice-is a)
       where
         go : (x : Chosen) → ChosenIs (anyone a c) x → chosenAnswer a x .0 ≡ choiceRefusal a c
@@ -228,7 +228,7 @@ pub record Fits (c : Candidates) : Type 0 where
   pub low : c .low < 2 ^ 16
 
 module _ (c : Candidates) (f : Fits c) where
-  pub fits-within : Within (λ i. i < 16) c
+  fits-within : Within (λ i. i < 16) c
   fits-within =
       record {
         all = λ i. set-within 16 (c .all) i (f .all);
