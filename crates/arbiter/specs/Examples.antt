@@ -5,6 +5,9 @@ use mathlib.Core.List.{List, [], _∷_, _++_}
 use mathlib.Core.Path.{_≡_, refl}
 use lib.ListN.{drop}
 use Rattle.bits.specs.Bits.{isSet, first, someBelow}
+use Rattle.arbiter.specs.declared.Remainder.the-variants.{Left}
+use Rattle.arbiter.specs.declared.Level.{Level}
+use Rattle.arbiter.specs.declared.LevelTurn.the-variants.{Served}
 use Rattle.arbiter.specs.declared.Arbiter.{Arbiter}
 use Rattle.arbiter.specs.declared.Candidates.{Candidates}
 use Rattle.arbiter.specs.declared.Chosen.{Chosen}
@@ -52,11 +55,35 @@ named a (c ∷ cs) = follow (λ b. named b cs) a (choice a c)
 abbrev pub credits : Arbiter → List ℕ
 credits a = a .high .credit ∷ a .medium .credit ∷ a .low .credit ∷ []
 
+-- a level whose turn queue i holds
+abbrev pub held : ℕ → ℕ → ℕ → Level
+held i left credit = record { group = record { holder = i; remainder = Left left }; credit = credit }
+
 -- weights 2, 3 and 4, of which 0, 1 and 4 are left
 abbrev pub spent : Arbiter
 spent =
     let a = fresh true 0x01020300 in
     withLevels a (withCredit (a .high) 0) (withCredit (a .medium) 1) (withCredit (a .low) 4)
+
+unfoldable pub HighWeights : Type 0
+HighWeights =
+    -- a weight is its byte plus one, up to 256
+    (credits (fresh true 0xFF807F00) ≡ 256 ∷ 129 ∷ 128 ∷ [])
+    × (credits (fresh true 0x7FFF8000) ≡ 128 ∷ 256 ∷ 129 ∷ [])
+    × (credits (fresh true 0x807FFF00) ≡ 129 ∷ 128 ∷ 256 ∷ [])
+    -- a level's full remainder, and what a first serving leaves of it: burst 7 and weight 256, burst 64 and weights 129 and 3
+    × (levelTurn (burstOf 7) (held 15 0 256) (isSet (maskOfIds (1 ∷ []))) ≡ Served 1 (held 1 255 255))
+    × (levelTurn (burstOf 6) (held 15 0 129) (isSet (maskOfIds (1 ∷ []))) ≡ Served 1 (held 1 63 128))
+    × (levelTurn (burstOf 6) (held 15 0 3) (isSet (maskOfIds (1 ∷ []))) ≡ Served 1 (held 1 2 2))
+    -- so that under burst 7 a queue of the high, medium or low level is served 256 or 129 times before another has its turn
+    × (drop 255 (named (fresh true 0xFF000007) (times 257 (highs (1 ∷ 2 ∷ [])))) ≡ 1 ∷ 2 ∷ [])
+    × (drop 128 (named (fresh true 0x00800007) (times 130 (mediums (1 ∷ 2 ∷ [])))) ≡ 1 ∷ 2 ∷ [])
+    × (drop 128 (named (fresh true 0x00008007) (times 130 (lows (1 ∷ 2 ∷ [])))) ≡ 1 ∷ 2 ∷ [])
+
+pub high-weights : HighWeights
+unfolding HighWeights named choice byWeight byLevel byGroup toppedUp someWaits someReady levelTurn ready someBelow turn nextAfter burstOf
+    first isSet
+high-weights = (refl, refl, refl, refl, refl, refl, refl, refl, refl)
 
 unfoldable pub Examples : Type 0
 Examples =
