@@ -8,6 +8,7 @@ pub mod Unlinked
 pub mod Validity
 pub mod Unserved
 pub mod Submitted
+pub mod CountsOne
 pub mod Links
 pub mod Apart
 pub mod Answered
