@@ -1,6 +1,7 @@
 pub mod Lists
 pub mod Outstanding
 pub mod Choosing
+pub mod Classes
 pub mod Made
 pub mod Refusals
 pub mod Steps

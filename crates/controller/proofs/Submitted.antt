@@ -7,19 +7,20 @@ use native.Mathlib.Omega.{arith}
 use lib.Dec.{eqb}
 use lib.ListN.{length, set}
 use lib.Seq.{getD-set-same}
-use borrow.Author.Tests.{eqb-false, leb-true}
-use Rattle.rules.proofs.Tests.{and-true, not-yes, lt-or-ge}
+use borrow.Author.Tests.{leb-true}
+use Rattle.rules.proofs.Tests.{and-true, lt-or-ge}
 use Rattle.le.specs.Memory.{Memory}
 use Rattle.ring.specs.Slots.{distance}
 use Rattle.ring.proofs.Steps.{distance-ahead, distance-around}
 use Rattle.controller.specs.declared.Ring.{Ring}
 use Rattle.controller.specs.Controller.{Controller}
 use Rattle.controller.specs.State.{noSq, sqAt}
-use Rattle.controller.specs.Starting.{candidateAt, entryAt, isPair, passed, oneTaken, pairTaken}
+use Rattle.controller.specs.Starting.{entryAt, isPair, passed, oneTaken, pairTaken}
 use Rattle.controller.specs.Valid.{Valid}
 use Rattle.controller.specs.Answers.{StartAnswer, Answer, refused, done, started, finished, Outcome}
 use Rattle.controller.specs.Calls.{Call, start, Reachable, perform}
 use Rattle.controller.proofs.Choosing.{Candidate}
+use Rattle.controller.proofs.Classes.{candidate-exact}
 use Rattle.controller.proofs.Made.{takes-one, takes-pair, finishes, Commands, refused-leaves, done-leaves, changes, of-commands}
 use Rattle.controller.proofs.Made.{made}
 use Rattle.controller.proofs.Validity.{valid}
@@ -36,16 +37,7 @@ pub record Taken (c d : Controller) (sq count : ℕ) : Type 0 where
   pub head-after : sqAt d sq .ring .head ≡ (sqAt c sq .ring .head + count) % sqAt c sq .ring .size
   pub tail-after : sqAt d sq .ring .tail ≡ sqAt c sq .ring .tail
 
--- ---- what a candidate and a pair are
-
-candidate-is : (c : Controller) (i : ℕ) → candidateAt c i ≡ true
-    → (let q = sqAt c i in (q .ring .exists ≡ true) × (q .marked ≡ false) × (q .ring .head ≡ q .ring .tail → ⊥))
-unfolding candidateAt
-candidate-is c i e =
-    let q = sqAt c i in
-    let a = and-true (q .ring .exists) _ e in
-    let b = and-true (not (q .marked)) _ (a .1) in
-    (a .0, not-yes (q .marked) (b .0), eqb-false _ _ (not-yes _ (b .1)))
+-- ---- what a pair is
 
 -- a pair has two commands submitted: its second half stands before the tail
 two-submitted : (id : ℕ) (r : Ring) (m : Memory) → isPair id r m ≡ true → 2 ≤ distance (r .size) (r .head) (r .tail)
@@ -65,14 +57,14 @@ module _ {c : Controller} (v : Valid c) where
   -- a candidate has one command submitted
   one-submitted : (id : ℕ) → Candidate c id → 1 ≤ waiting c id
   one-submitted id k =
-      let q = candidate-is c id (k .1) in
+      let q = candidate-exact c id .0 (k .1) in
       let o = v .sq-ok id (q .0) in
       not-empty _ _ _ (o .head-below) (o .tail-below) (q .2)
 
   -- n commands are taken from a candidate that has as many submitted
   moved : (d : Controller) (id n : ℕ) → Candidate c id → n ≤ waiting c id → d .sqs ≡ set (c .sqs) id (passed (sqAt c id) n) → Taken c d id n
   moved d id n k h e =
-      let q = candidate-is c id (k .1) in
+      let q = candidate-exact c id .0 (k .1) in
       let l : id < length (c .sqs) = omega (arith, k .0, v .sqs-16) in
       let s = getD-set-same (c .sqs) id (passed (sqAt c id) n) noSq l in
       record { here = q .0; unmarked = q .1; submitted = h; head-after = rw (e, s) refl; tail-after = rw (e, s) refl }
