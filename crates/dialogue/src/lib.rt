@@ -3,13 +3,15 @@ ghost use mathlib.Core.Path.{_≡_};
 ghost use Prim.Native.Nat.{_+_, _<_, _≤_};
 ghost use lib.ListN.{length};
 ghost use Rattle.dialogue.specs.Kept.{Kept};
-use crate::wanted::beside;
+use crate::form::Form;
+use crate::form::put_line;
+use crate::form::put_wanted;
 use libc::STDIN_FILENO;
 use libc::STDOUT_FILENO;
 use shell::Shell;
 use words::line::without_cr;
 
-mod wanted;
+mod form;
 
 const MEMORY_BYTES: usize = 1048576;
 
@@ -18,11 +20,11 @@ const LINE_BYTES: usize = 4097;
 
 const OUT_BYTES: usize = 65536;
 
-// The room that an answer may need.
-const ANSWER_BYTES: usize = 16384;
+// The room that an answer may need, 16,384 bytes, and its line before it, with the LF and the arrow between them.
+const ROOM_BYTES: usize = 20485;
 
 // How many lines have ended, how many bytes of the next are held, where the chunk of input is read on, and how many bytes of
-// answers are not yet written out; whether input may still come, and whether answers stand beside what is wanted.
+// answers are not yet written out; whether input may still come, and the form of the answers.
 struct Dialogue {
     shell: Shell,
     lines: u64,
@@ -30,7 +32,7 @@ struct Dialogue {
     at: usize,
     unwritten: usize,
     open: bool,
-    beside: bool,
+    form: Form,
 }
 
 // The next part of a line: where it ends in the chunk, how many bytes of the line are held, and whether its LF was there.
@@ -76,43 +78,62 @@ fn gather(chunk: &[u8], at: usize, line: &mut [u8], held: usize) -> Part
     }
 }
 
-// Writes the answers out where there is little room left for another, and answers how many bytes are still to be written.
-fn with_room(out: &[u8], unwritten: usize) -> usize
-    requires { ⌜ (unwritten ≤ 65536) × (65536 ≤ length (now out)) ⌝ }
-    ensures { λ r. ⌜ r + 16384 ≤ 65536 ⌝ }
+// Writes the answers out.
+fn write_out(mut s: Dialogue, out: &[u8]) -> Dialogue
+    requires { ⌜ Kept s × (65536 ≡ length (now out)) ⌝ }
+    ensures { λ r. ⌜ Kept r × (r .unwritten ≡ 0) ⌝ }
 {
-    if OUT_BYTES - unwritten < ANSWER_BYTES {
-        io::write_all(STDOUT_FILENO, &out[..unwritten]);
-        return 0;
-    }
-    unwritten
+    let n = s.unwritten;
+    io::write_all(STDOUT_FILENO, &out[..n]);
+    s.unwritten = 0;
+    s
 }
 
-// Answers a line.
+// Writes the answers out where there is little room left for another.
+fn with_room(s: Dialogue, out: &[u8]) -> Dialogue
+    requires { ⌜ Kept s × (65536 ≡ length (now out)) ⌝ }
+    ensures { λ r. ⌜ Kept r × (r .unwritten + 20485 ≤ 65536) ⌝ }
+{
+    if OUT_BYTES - s.unwritten < ROOM_BYTES {
+        return write_out(s, out);
+    }
+    s
+}
+
+// Answers a line behind the answers that are not yet written out.
+fn answer(s: Dialogue, memory: &mut [u8], line: &[u8], out: &mut [u8]) -> Dialogue
+    requires { ⌜ Kept s × (s .unwritten + 20485 ≤ 65536) × (length (now line) ≤ 4097) ⌝ }
+    requires { ⌜ (1048576 ≤ length (now memory)) × (65536 ≡ length (now out)) ⌝ }
+    ensures { λ r. ⌜ Kept r × (r .at ≡ s .at) ⌝ }
+{
+    let mut next = s;
+    let form = s.form;
+    let place = put_line(form, line, out, s.unwritten);
+    let start = place.answer;
+    let answered = shell::answer(s.shell, memory, line, s.lines, &mut out[start..]);
+    let shell = answered.shell;
+    next.shell = shell;
+    next.held = 0;
+    next.unwritten = put_wanted(form, line, out, place, answered.length);
+    next
+}
+
+// Takes a line that ended.
 fn respond(s: Dialogue, at: usize, memory: &mut [u8], line: &[u8], out: &mut [u8]) -> Dialogue
-    requires { ⌜ Kept s × (1048576 ≤ length (now memory)) × (65536 ≤ length (now out)) ⌝ }
+    requires { ⌜ Kept s × (length (now line) ≤ 4097) ⌝ }
+    requires { ⌜ (1048576 ≤ length (now memory)) × (65536 ≡ length (now out)) ⌝ }
     ensures { λ r. ⌜ Kept r × (r .at ≡ at) ⌝ }
 {
-    let number = std::num::wrapping_add_u64(s.lines, 1);
-    let start = with_room(out, s.unwritten);
-    let answered = shell::answer(s.shell, memory, line, number, &mut out[start..]);
-    let shell = answered.shell;
-    let length = beside(s.beside, line, &mut out[start..OUT_BYTES], answered.length);
-    Dialogue {
-        shell: shell,
-        lines: number,
-        held: 0,
-        at: at,
-        unwritten: start + length,
-        open: s.open,
-        beside: s.beside,
-    }
+    let mut next = with_room(s, out);
+    next.at = at;
+    next.lines = std::num::wrapping_add_u64(s.lines, 1);
+    answer(next, memory, line, out)
 }
 
 // Reads a chunk on to the end of a line, which is answered, or to its own end.
 fn step(s: Dialogue, memory: &mut [u8], chunk: &[u8], line: &mut [u8], out: &mut [u8]) -> Dialogue
     requires { ⌜ Kept s × (s .at < length (now chunk)) ⌝ }
-    requires { ⌜ (1048576 ≤ length (now memory)) × (4097 ≤ length (now line)) × (65536 ≤ length (now out)) ⌝ }
+    requires { ⌜ (1048576 ≤ length (now memory)) × (4097 ≤ length (now line)) × (65536 ≡ length (now out)) ⌝ }
     ensures { λ r. ⌜ Kept r × (s .at < r .at) × (r .at ≤ length (now (chunk .entry))) ⌝ }
 {
     let part = gather(chunk, s.at, line, s.held);
@@ -127,19 +148,9 @@ fn step(s: Dialogue, memory: &mut [u8], chunk: &[u8], line: &mut [u8], out: &mut
     next
 }
 
-fn write_out(mut s: Dialogue, out: &[u8]) -> Dialogue
-    requires { ⌜ Kept s × (65536 ≤ length (now out)) ⌝ }
-    ensures { λ r. ⌜ Kept r ⌝ }
-{
-    let n = s.unwritten;
-    io::write_all(STDOUT_FILENO, &out[..n]);
-    s.unwritten = 0;
-    s
-}
-
 // Answers the lines that end in a chunk.
 fn feed(s: Dialogue, memory: &mut [u8], chunk: &[u8], line: &mut [u8], out: &mut [u8]) -> Dialogue
-    requires { ⌜ Kept s × (1048576 ≤ length (now memory)) × (4097 ≤ length (now line)) × (65536 ≤ length (now out)) ⌝ }
+    requires { ⌜ Kept s × (1048576 ≤ length (now memory)) × (4097 ≤ length (now line)) × (65536 ≡ length (now out)) ⌝ }
     ensures { λ r. ⌜ Kept r ⌝ }
 {
     let mut next = s;
@@ -151,16 +162,17 @@ fn feed(s: Dialogue, memory: &mut [u8], chunk: &[u8], line: &mut [u8], out: &mut
 }
 
 // At the end of the input a last line without LF counts.
-fn finish(mut s: Dialogue, memory: &mut [u8], line: &[u8], out: &mut [u8]) -> Dialogue
-    requires { ⌜ Kept s × (1048576 ≤ length (now memory)) × (4097 ≤ length (now line)) × (65536 ≤ length (now out)) ⌝ }
+fn finish(s: Dialogue, memory: &mut [u8], line: &[u8], out: &mut [u8]) -> Dialogue
+    requires { ⌜ Kept s × (1048576 ≤ length (now memory)) × (4097 ≤ length (now line)) × (65536 ≡ length (now out)) ⌝ }
     ensures { λ r. ⌜ Kept r ⌝ }
 {
-    s.open = false;
+    let mut last = s;
     let held = s.held;
-    if held == 0 {
-        return s;
+    if held > 0 {
+        last = write_out(respond(s, 0, memory, &line[..held], out), out);
     }
-    write_out(respond(s, 0, memory, &line[..held], out), out)
+    last.open = false;
+    last
 }
 
 // Reads once, and answers the lines that came.
@@ -181,7 +193,7 @@ fn turn(
     feed(s, memory, &chunk[..n], line, out)
 }
 
-fn first(beside: bool) -> Dialogue
+fn first(form: Form) -> Dialogue
     ensures { λ r. ⌜ Kept r ⌝ }
 {
     let shell = Shell::new();
@@ -192,7 +204,7 @@ fn first(beside: bool) -> Dialogue
         at: 0,
         unwritten: 0,
         open: true,
-        beside: beside,
+        form: form,
     }
 }
 
@@ -214,10 +226,15 @@ fn converse(first: Dialogue)
 
 // Answers each line.
 pub fn run() {
-    converse(first(false));
+    converse(first(Form::Alone));
 }
 
 // Answers each line, with what stands behind its `#` as wanted beside it.
 pub fn run_beside() {
-    converse(first(true));
+    converse(first(Form::Beside));
+}
+
+// Repeats each line, also one that wants no answer, and answers under it.
+pub fn run_under() {
+    converse(first(Form::Under));
 }

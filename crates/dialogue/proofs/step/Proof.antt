@@ -2,6 +2,7 @@
 use borrow.Author.Needs.{needs}
 use lib.Seq.{length-take-le}
 use mathlib.Core.Path.{sym}
+use Rattle.dialogue.proofs.Prefix.{at-most}
 use Rattle.dialogue.proofs.step.Statement.{statement}
 use Rattle.dialogue.proofs.step.Tie as tie
 
@@ -13,7 +14,7 @@ step-spec =
     (λ c κs. search needs)
     (λ c. search needs)
     (λ c. sym (length-take-le _ _ (search needs)))
-    (λ c κs. search needs)
+    (λ c κs. ((search needs, at-most (c .before .before .before .without-cr .result) _ (search needs)), search needs))
     (λ c. search needs)
     (λ c. search needs)
     (λ c. search needs)

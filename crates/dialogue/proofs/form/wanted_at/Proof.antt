@@ -1,22 +1,22 @@
--- `dialogue::wanted::is_same` stays in both texts and ends. Assumes nothing.
+-- `dialogue::form::wanted_at` stays in the line and ends. Assumes nothing.
 use borrow.Author.Needs.{needs}
 use Prim.Native.Nat.{_≤_, _-_}
-use Rattle.dialogue.proofs.wanted.is_same.Statement.{statement}
-use Rattle.dialogue.proofs.wanted.is_same.Tie as tie
+use lib.ListN.{length}
+use Rattle.dialogue.proofs.form.wanted_at.Statement.{statement}
+use Rattle.dialogue.proofs.form.wanted_at.Tie as tie
 
 abbrev Inv-loop : tie.InvT-loop
-Inv-loop answer n line from i₀ i = i ≤ n
+Inv-loop line i₀ i = i ≤ length line
 
 abbrev μ-loop : tie.MeasureT-loop
-μ-loop answer n line from i₀ i = n - i
+μ-loop line i₀ i = length line - i
 
-pub is-same-spec : {M : Type 1} → statement M
-is-same-spec =
+pub wanted-at-spec : {M : Type 1} → statement M
+wanted-at-spec =
     tie.close
     (tie.spec
     Inv-loop
     μ-loop
-    (λ c. search needs)
     (λ c. search needs)
     (λ c. search needs)
     (λ c. search needs)
