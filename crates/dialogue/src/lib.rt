@@ -6,12 +6,12 @@ ghost use Rattle.dialogue.specs.Kept.{Kept};
 use crate::form::Form;
 use crate::form::put_line;
 use crate::form::put_wanted;
-use libc::STDIN_FILENO;
-use libc::STDOUT_FILENO;
+use libc::STDERR_FILENO;
 use shell::Shell;
 use words::line::without_cr;
 
 mod form;
+mod stream;
 
 const MEMORY_BYTES: usize = 1048576;
 
@@ -23,11 +23,13 @@ const OUT_BYTES: usize = 65536;
 // The room that an answer may need, 16,384 bytes, and its line before it, with the LF and the arrow between them.
 const ROOM_BYTES: usize = 20485;
 
-// How many lines have ended, how many bytes of the next are held, where the chunk of input is read on, and how many bytes of
-// answers are not yet written out; whether input may still come, and the form of the answers.
+// How many lines have ended, and of how many the answers are written out; how many bytes of the next line are held, where the
+// chunk of input is read on, and how many bytes of answers are not yet written out; whether the conversation goes on, and the
+// form of its answers.
 struct Dialogue {
     shell: Shell,
     lines: u64,
+    answered: u64,
     held: usize,
     at: usize,
     unwritten: usize,
@@ -78,14 +80,37 @@ fn gather(chunk: &[u8], at: usize, line: &mut [u8], held: usize) -> Part
     }
 }
 
+// Says on standard error what failed, by which error and where, and ends the conversation.
+fn give_up(mut s: Dialogue, what: &[u8], error: u64) -> Dialogue
+    requires { ⌜ Kept s ⌝ }
+    ensures { λ r. ⌜ Kept r × (r .unwritten ≡ s .unwritten) ⌝ }
+{
+    io::write_all(STDERR_FILENO, b"console: ");
+    io::write_all(STDERR_FILENO, what);
+    io::write_all(STDERR_FILENO, b" error ");
+    io::print_decimal(STDERR_FILENO, error);
+    io::write_all(STDERR_FILENO, b" at line ");
+    io::print_decimal(STDERR_FILENO, std::num::wrapping_add_u64(s.answered, 1));
+    io::write_all(STDERR_FILENO, b": all lines before it are answered\n");
+    s.open = false;
+    s
+}
+
 // Writes the answers out.
 fn write_out(mut s: Dialogue, out: &[u8]) -> Dialogue
     requires { ⌜ Kept s × (65536 ≡ length (now out)) ⌝ }
     ensures { λ r. ⌜ Kept r × (r .unwritten ≡ 0) ⌝ }
 {
     let n = s.unwritten;
-    io::write_all(STDOUT_FILENO, &out[..n]);
     s.unwritten = 0;
+    if !s.open {
+        return s;
+    }
+    let error = stream::write(&out[..n]);
+    if error > 0 {
+        return give_up(s, b"write", error);
+    }
+    s.answered = s.lines;
     s
 }
 
@@ -126,6 +151,9 @@ fn respond(s: Dialogue, at: usize, memory: &mut [u8], line: &[u8], out: &mut [u8
 {
     let mut next = with_room(s, out);
     next.at = at;
+    if !next.open {
+        return next;
+    }
     next.lines = std::num::wrapping_add_u64(s.lines, 1);
     answer(next, memory, line, out)
 }
@@ -155,7 +183,7 @@ fn feed(s: Dialogue, memory: &mut [u8], chunk: &[u8], line: &mut [u8], out: &mut
 {
     let mut next = s;
     next.at = 0;
-    while next.at < chunk.len() {
+    while next.at < chunk.len() && next.open {
         next = step(next, memory, chunk, line, out);
     }
     write_out(next, out)
@@ -186,7 +214,11 @@ fn turn(
     ensures { λ r. ⌜ Kept r ⌝ }
 {
     let mut chunk = io::large_buffer();
-    let n = io::count(libc::read(STDIN_FILENO, &mut chunk), &chunk);
+    let input = stream::read(&mut chunk);
+    if input.error > 0 {
+        return give_up(s, b"read", input.error);
+    }
+    let n = input.count;
     if n == 0 {
         return finish(s, memory, line, out);
     }
@@ -200,6 +232,7 @@ fn first(form: Form) -> Dialogue
     Dialogue {
         shell: shell,
         lines: 0,
+        answered: 0,
         held: 0,
         at: 0,
         unwritten: 0,

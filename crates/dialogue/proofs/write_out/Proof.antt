@@ -6,4 +6,13 @@ use Rattle.dialogue.proofs.write_out.Statement.{statement}
 use Rattle.dialogue.proofs.write_out.Tie as tie
 
 pub write-out-spec : {M : Type 1} → statement M
-write-out-spec = tie.close (tie.spec (λ c. sym (length-take-le _ _ (search needs))) (λ c κs. search needs) (λ c. search needs))
+write-out-spec =
+    tie.close
+    (tie.spec
+    (λ c. search needs)
+    (λ c. sym (length-take-le _ _ (search needs)))
+    (λ c κs. search needs)
+    (λ c. search needs)
+    (λ c κs. search needs)
+    (λ c. search needs)
+    (λ c. search needs))

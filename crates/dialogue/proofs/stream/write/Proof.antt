@@ -1,0 +1,37 @@
+-- `dialogue::stream::write` writes from inside the text and ends: each try counts down. Assumes nothing.
+use borrow.Author.Needs.{needs}
+use Prim.Native.Nat.{_≤_}
+use lib.ListN.{length}
+use Rattle.dialogue.proofs.stream.write.Statement.{statement}
+use Rattle.dialogue.proofs.stream.write.Tie as tie
+
+abbrev Inv-loop : tie.InvT-loop
+Inv-loop text done₀ tries₀ done tries = done ≤ length text
+
+abbrev μ-loop : tie.MeasureT-loop
+μ-loop text done₀ tries₀ done tries = tries
+
+pub write-spec : {M : Type 1} → statement M
+write-spec =
+    tie.close
+    (tie.spec
+    Inv-loop
+    μ-loop
+    (λ c. search needs)
+    (λ c. search needs)
+    (λ c. search needs)
+    (λ c. search needs)
+    (λ c κs. search needs)
+    (λ c κs. search needs)
+    (λ c. search needs)
+    (λ c. search needs)
+    (λ c. search needs)
+    (λ c. search needs)
+    (λ c κs. search needs)
+    (λ c. search needs)
+    (λ c. search needs)
+    (λ c. search needs)
+    (λ c. search needs)
+    (λ c κs. search needs)
+    (λ c. search needs)
+    (λ c. search needs))
