@@ -1,5 +1,6 @@
-//! A second implementation of document 01, written from the papers alone, with a generator of
-//! random scripts in the console's language and a runner that holds another console to it.
+//! A second implementation of document 01, written from the papers and from the same list of
+//! readings (docs/DECISIONS.md), sharing no code with the model, with a generator of random scripts
+//! in the console's language and a runner that holds another console to it.
 
 mod arbiter;
 mod compare;
