@@ -329,7 +329,7 @@ fn submission(n: &[u64]) -> Submission {
         prp2: n[7],
         slba: n[8],
         nlb: n[9],
-        cdw12h: n[10],
+        cdw12_high: n[10],
         cdw13: n[11],
         cdw14: n[12],
         cdw15: n[13],
@@ -339,7 +339,7 @@ fn submission(n: &[u64]) -> Submission {
 /// The fields in the order of the console's `write-sqe` and `read-sqe`.
 pub fn submission_numbers(e: &Submission) -> [u64; 14] {
     [
-        e.opc, e.fuse, e.psdt, e.cid, e.nsid, e.mptr, e.prp1, e.prp2, e.slba, e.nlb, e.cdw12h,
+        e.opc, e.fuse, e.psdt, e.cid, e.nsid, e.mptr, e.prp1, e.prp2, e.slba, e.nlb, e.cdw12_high,
         e.cdw13, e.cdw14, e.cdw15,
     ]
 }

@@ -112,7 +112,7 @@ impl Generator {
             8 => self.noise(),
             9 => self.shrink(),
             10 => self.bad_tail(),
-            11 => self.stranger(),
+            11 => self.reused_tag(),
             12 => self.last_tag(),
             13 => self.long_run(),
             _ => self.crowd(),

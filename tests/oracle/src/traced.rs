@@ -168,7 +168,7 @@ fn cq_size_2(t: &mut Trial) {
     );
 }
 
-/// Fused pairs: over the wrap, FUSE 1 1 2, 16, 09h, and a freed tag taken by a stranger.
+/// Fused pairs: over the wrap, FUSE 1 1 2, 16, 09h, and a freed tag taken by another command.
 fn pairs(t: &mut Trial) {
     t.play(
         "create-cq 1 8 0 => create-cq 0

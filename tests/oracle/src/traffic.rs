@@ -88,7 +88,7 @@ impl Generator {
             prp2: self.random.edge(),
             slba: self.random.edge(),
             nlb: self.random.below(65_536),
-            cdw12h: self.random.below(65_536),
+            cdw12_high: self.random.below(65_536),
             cdw13: self.random.below(1 << 32),
             cdw14: self.random.below(1 << 32),
             cdw15: self.random.below(1 << 32),
@@ -298,7 +298,7 @@ impl Generator {
     }
 
     /// Finishes a first half, lets another command take its tag, then finishes the second.
-    pub fn stranger(&mut self) {
+    pub fn reused_tag(&mut self) {
         let pairs: Vec<(usize, usize)> =
             self.outstanding().iter().filter_map(|tag| self.second_of(*tag)).collect();
         let Some((first, second)) = self.random.choose(&pairs) else { return };
