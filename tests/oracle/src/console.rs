@@ -166,6 +166,11 @@ impl Console {
         Console { memory: vec![0; MEMORY], lent: MEMORY, controller, lines: 0 }
     }
 
+    /// The memory that is lent.
+    pub fn memory(&self) -> &[u8] {
+        &self.memory[..self.lent]
+    }
+
     /// Takes one line, without its LF; `ended` says whether it had one.
     pub fn take(&mut self, line: &[u8], ended: bool) -> Outcome {
         self.lines += 1;
@@ -280,7 +285,7 @@ impl Console {
     /// "As many pairs as PAGES; `walk REFUSAL 0 0` on a refusal".
     fn walk(&self, n: &[u64]) -> Vec<u64> {
         let rooms = Rooms { addresses: n[4], counts: n[5] };
-        match walk(&self.memory[..self.lent], n[0], n[1], n[2], n[3], rooms) {
+        match walk(self.memory(), n[0], n[1], n[2], n[3], rooms) {
             Err(refusal) => vec![refusal, 0, 0],
             Ok(found) => {
                 let mut answer = vec![0, found.pages.len() as u64, found.reads];
@@ -339,8 +344,20 @@ fn submission(n: &[u64]) -> Submission {
 /// The fields in the order of the console's `write-sqe` and `read-sqe`.
 pub fn submission_numbers(e: &Submission) -> [u64; 14] {
     [
-        e.opc, e.fuse, e.psdt, e.cid, e.nsid, e.mptr, e.prp1, e.prp2, e.slba, e.nlb, e.cdw12_high,
-        e.cdw13, e.cdw14, e.cdw15,
+        e.opc,
+        e.fuse,
+        e.psdt,
+        e.cid,
+        e.nsid,
+        e.mptr,
+        e.prp1,
+        e.prp2,
+        e.slba,
+        e.nlb,
+        e.cdw12_high,
+        e.cdw13,
+        e.cdw14,
+        e.cdw15,
     ]
 }
 

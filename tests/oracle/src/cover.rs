@@ -2,13 +2,16 @@
 
 use crate::arbiter::Candidates;
 use crate::console::{lines, Console, Outcome, FORMS};
+use crate::entry::Submission;
 use crate::line::{number, words};
-use crate::model::{CID_CONFLICT, FAILED_FUSED, INVALID_FIELD, MISSING_FUSED, TAGS};
+use crate::model::{Sq, CID_CONFLICT, FAILED_FUSED, INVALID_FIELD, MISSING_FUSED, TAGS};
+use crate::ring;
+use crate::walk::{read_list, touched};
 use std::collections::BTreeMap;
 use std::fmt::Write;
 
 /// Everything counted under a name, for mechanism 0 and for mechanism 1.
-const EVENTS: [&str; 30] = [
+const EVENTS: [&str; 43] = [
     "create: accepted",
     "create: two or more faults at once",
     "finish: 02h posted",
@@ -24,11 +27,22 @@ const EVENTS: [&str; 30] = [
     "reader: some waiting",
     "start: 13 with no tag free",
     "start: 13 with one tag free",
+    "start: alone, a CID in use is apart by its highest bit",
+    "start: alone, a CID in use has the same low byte",
     "start: candidates in two levels",
     "start: credits refilled",
     "start: four candidates or more",
+    "start: FUSE 3 behind FUSE 1",
     "start: pair over the wrap",
     "start: pair with a verdict",
+    "start: pair, CIDs apart by their highest bit",
+    "start: pair, CIDs with the same low byte",
+    "start: pair, first opcode 85h",
+    "start: pair, NLBs apart by their highest bit",
+    "start: pair, NSIDs apart by their highest bit",
+    "start: pair, second opcode 08h",
+    "start: pair, second opcode 81h",
+    "start: pair, SLBAs apart by their highest bit",
     "start: pair, verdict 0",
     "start: ring of 1,024 entries",
     "start: SQ wraps",
@@ -36,9 +50,11 @@ const EVENTS: [&str; 30] = [
     "start: verdict 02h",
     "start: verdict 03h",
     "start: verdict 0Ah",
+    "start: weight byte of 80h or more, two levels wait",
     "tail: marks",
     "tail: same value",
-    "walk: pointer read",
+    "walk: 18 for an entry that is a multiple of 4,096",
+    "walk: 18 for a pointer that is a multiple of 4,096",
 ];
 
 /// Starts under each burst number of the feature word.
@@ -51,6 +67,15 @@ const BURSTS: [&str; 8] = [
     "start: burst 5",
     "start: burst 6",
     "start: burst 7",
+];
+
+/// Walks over a pointer with each page size number.
+const POINTERS: [&str; 5] = [
+    "walk: pointer read, pages of 4,096",
+    "walk: pointer read, pages of 8,192",
+    "walk: pointer read, pages of 16,384",
+    "walk: pointer read, pages of 32,768",
+    "walk: pointer read, pages of 65,536",
 ];
 
 #[derive(Default)]
@@ -71,7 +96,7 @@ struct Cover {
 /// The table for a script.
 pub fn table(script: &[u8]) -> String {
     let mut cover = Cover { console: Some(Console::new()), ..Cover::default() };
-    for event in EVENTS.into_iter().chain(BURSTS) {
+    for event in EVENTS.into_iter().chain(BURSTS).chain(POINTERS) {
         cover.events.insert(event, [0; 2]);
     }
     for (line, ended) in lines(script) {
@@ -114,16 +139,14 @@ impl Cover {
                 match name {
                     "start" => {
                         self.started(&console, &answer, free);
-                        self.arbitrated(&console, answer[0], credits, candidates);
+                        self.arbitrated(&console, &answer, credits, candidates);
                     }
                     "tail" if answer[0] == 10 => self.count(&console, "tail: marks"),
                     "finish" if answer[0] == 0 => {
                         self.finished(&console, &asked, answer[1], verdict)
                     }
                     "waiting" if answer[0] == 0 => self.read(&console, &asked, answer[1]),
-                    "walk" if answer[0] == 0 && answer[2] >= answer[1] => {
-                        self.count(&console, "walk: pointer read")
-                    }
+                    "walk" => self.walked(&console, &asked, &answer),
                     "create-cq" | "create-sq" if answer[0] == 0 => {
                         self.count(&console, "create: accepted")
                     }
@@ -193,6 +216,7 @@ impl Cover {
             MISSING_FUSED => self.count(console, "start: verdict 0Ah"),
             _ => self.count(console, "start: verdict 0"),
         }
+        self.taken(console, sq, answer);
         if count == 2 {
             self.firsts.insert(second, tag);
             let sound =
@@ -208,11 +232,11 @@ impl Cover {
     fn arbitrated(
         &mut self,
         console: &Console,
-        refusal: u64,
+        answer: &[u64],
         credits: u64,
         candidates: Candidates,
     ) {
-        if refusal != 0 {
+        if answer[0] != 0 {
             return;
         }
         if candidates.iter().flatten().count() >= 4 {
@@ -221,9 +245,97 @@ impl Cover {
         let levels = (1..=3).filter(|class| candidates[1..].contains(&Some(*class))).count();
         if levels >= 2 {
             self.count(console, "start: candidates in two levels");
+            let word = console.controller.arbiter().word();
+            if candidates[answer[1] as usize].is_some_and(|class| weight_byte(word, class) >= 0x80)
+            {
+                self.count(console, "start: weight byte of 80h or more, two levels wait");
+            }
         }
         if console.controller.arbiter().credits().iter().sum::<u64>() > credits {
             self.count(console, "start: credits refilled");
+        }
+    }
+
+    /// What stood in the slots taken, beside the queue's other commands.
+    fn taken(&mut self, console: &Console, sq: &Sq, answer: &[u64]) {
+        let [_, id, count, tag, _, slot, verdict] = *answer else { return };
+        let after = ring::next(sq.size, slot);
+        let entries = [slot, after].map(|slot| sq.entry(console.memory(), slot));
+        let [Ok(first), Ok(second)] = entries else { return };
+        if count == 2 {
+            return self.paired(console, &first, &second, verdict);
+        }
+        if id != 0 && first.fuse == 1 && after != sq.tail && second.fuse == 3 {
+            self.count(console, "start: FUSE 3 behind FUSE 1");
+        }
+        let commands = console.controller.tags.iter().enumerate();
+        let others = commands.filter(|(other, _)| *other != tag as usize && verdict == 0);
+        let cids = others.flat_map(|(_, other)| other).filter(|other| other.sq == id as usize);
+        for cid in cids.map(|other| other.cid) {
+            if cid ^ first.cid == 0x8000 {
+                self.count(console, "start: alone, a CID in use is apart by its highest bit");
+            }
+            if cid % 256 == first.cid % 256 {
+                self.count(console, "start: alone, a CID in use has the same low byte");
+            }
+        }
+    }
+
+    /// A pair of which at most one thing is wrong, by its highest bit or nearly so.
+    fn paired(&mut self, console: &Console, a: &Submission, b: &Submission, verdict: u64) {
+        let wrong = [
+            a.opc != 0x05,
+            b.opc != 0x01,
+            a.nsid != b.nsid,
+            a.slba != b.slba,
+            a.nlb != b.nlb,
+            a.psdt != 0,
+            b.psdt != 0,
+        ];
+        let alone = wrong.into_iter().filter(|wrong| *wrong).count() == 1;
+        let rows = [
+            ("start: pair, first opcode 85h", alone && a.opc == 0x85),
+            ("start: pair, second opcode 81h", alone && b.opc == 0x81),
+            ("start: pair, second opcode 08h", alone && b.opc == 0x08),
+            ("start: pair, NSIDs apart by their highest bit", alone && a.nsid ^ b.nsid == 1 << 31),
+            ("start: pair, SLBAs apart by their highest bit", alone && a.slba ^ b.slba == 1 << 63),
+            ("start: pair, NLBs apart by their highest bit", alone && a.nlb ^ b.nlb == 1 << 15),
+            (
+                "start: pair, CIDs apart by their highest bit",
+                verdict == 0 && a.cid ^ b.cid == 1 << 15,
+            ),
+            (
+                "start: pair, CIDs with the same low byte",
+                verdict == 0 && a.cid % 256 == b.cid % 256,
+            ),
+        ];
+        for (event, _) in rows.into_iter().filter(|(_, reached)| *reached) {
+            self.count(console, event);
+        }
+    }
+
+    /// A walk over a pointer, or one that stopped in its list at an offset of whole 4,096s.
+    fn walked(&mut self, console: &Console, asked: &[u64], answer: &[u64]) {
+        let [prp1, prp2, length, number, ..] = *asked else { return };
+        if answer[0] == 0 && answer[2] >= answer[1] {
+            self.count(console, POINTERS[number as usize]);
+        }
+        if answer[0] != 18 || prp1 % 4 != 0 {
+            return;
+        }
+        let page = 4096 << number;
+        let n = touched(prp1, length, page);
+        let mut entries = Vec::new();
+        if n < 3 || read_list(console.memory(), prp2, page, n, &mut entries).is_ok() {
+            return;
+        }
+        if let Some(last) = entries.last().filter(|last| last.value % 4096 == 0) {
+            let event = if last.points {
+                "walk: 18 for a pointer that is a multiple of 4,096"
+            } else {
+                "walk: 18 for an entry that is a multiple of 4,096"
+            };
+            self.count(console, event);
         }
     }
 
@@ -299,6 +411,14 @@ impl Cover {
             let _ = writeln!(out, "{event:<54} {round_robin:>11} {weighted:>11}");
         }
         out
+    }
+}
+
+/// The feature word's byte for the level of a class; 0 for the urgent class.
+fn weight_byte(word: u64, class: u64) -> u64 {
+    match class {
+        1..=3 => word >> (32 - 8 * class) & 0xFF,
+        _ => 0,
     }
 }
 

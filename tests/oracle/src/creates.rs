@@ -13,8 +13,12 @@ impl Generator {
             self.say(&format!("fill 0 {MEMORY} 0"));
         }
         let word = self.word();
-        let mechanism =
-            if self.random.chance(15) { self.random.edge() } else { self.random.below(2) };
+        let sound = self.random.below(2);
+        let mechanism = match self.random.weighted(&[85, 10, 5]) {
+            0 => sound,
+            1 => self.random.edge(),
+            _ => self.random.lifted(sound),
+        };
         if !self.say(&format!("controller {mechanism} {word}")) && self.random.chance(50) {
             self.say(&format!("controller 1 {word}"));
         }
@@ -38,12 +42,16 @@ impl Generator {
         }
     }
 
-    /// All bursts, small and large weights, and anything in the ignored bits.
+    /// All bursts, weights that are small, small but for their highest bit, or any, and
+    /// something in the ignored bits.
     fn word(&mut self) -> u64 {
         let mut word = self.random.below(8) + 8 * self.random.below(4).saturating_sub(2);
         for shift in [8, 16, 24] {
-            let weight =
-                if self.random.chance(75) { self.random.below(4) } else { self.random.below(256) };
+            let weight = match self.random.weighted(&[60, 20, 20]) {
+                0 => self.random.below(4),
+                1 => 0x80 + self.random.below(4),
+                _ => self.random.below(256),
+            };
             word += weight << shift;
         }
         word
@@ -114,7 +122,8 @@ impl Generator {
             self.random.pick(&[2, 3, 4, 8, 63, 64, 65, 256, 257, 1024])
         } else {
             let edge = self.random.edge();
-            self.random.pick(&[0, 1, 1025, 65_538, (1 << 32) + 2, u64::MAX, edge])
+            let lifted = self.random.lifted(4);
+            self.random.pick(&[0, 1, 1025, 65_538, (1 << 32) + 2, lifted, u64::MAX, edge])
         };
         let base = self.odd_base(size, entry);
         if for_cq {
@@ -122,16 +131,20 @@ impl Generator {
             return;
         }
         let edge = self.random.edge();
-        let cq = match self.random.weighted(&[80, 8, 6, 6]) {
-            0 => self.fitting_cq(id),
+        let fitting = self.fitting_cq(id);
+        let cq = match self.random.weighted(&[80, 8, 6, 3, 3]) {
+            0 => fitting,
             1 => self.random.below(16),
             2 => self.random.pick(&[0, 16, 17, 255, 256]),
+            3 => self.random.lifted(fitting),
             _ => edge,
         };
+        let sound = self.random.below(4);
+        let lifted = self.random.lifted(sound);
         let class = if self.random.chance(85) {
-            self.random.below(4)
+            sound
         } else {
-            self.random.pick(&[4, 5, 255, 256, edge])
+            self.random.pick(&[4, 5, 255, 256, lifted, edge])
         };
         self.say(&format!("create-sq {id} {size} {base} {cq} {class}"));
     }
@@ -151,7 +164,10 @@ impl Generator {
         let found = match self.random.weighted(&[80, 11, 9]) {
             0 => self.random.choose(&free),
             1 => self.random.choose(&taken),
-            _ => Some(self.random.pick(&[16, 17, 31, 256, 1 << 32, edge])),
+            _ => {
+                let lifted = self.random.choose(&free).map(|id| self.random.lifted(id));
+                Some(self.random.pick(&[16, 17, 31, 256, 1 << 32, lifted.unwrap_or(edge), edge]))
+            }
         };
         found.unwrap_or(16)
     }

@@ -97,7 +97,7 @@ impl Sq {
         !self.marked && self.head != self.tail
     }
 
-    fn entry(&self, memory: &[u8], slot: u64) -> Result<Submission, u64> {
+    pub fn entry(&self, memory: &[u8], slot: u64) -> Result<Submission, u64> {
         Submission::read(&memory[(self.base + slot * SUBMISSION as u64) as usize..])
     }
 }

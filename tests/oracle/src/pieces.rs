@@ -23,7 +23,7 @@ type Listed = (u64, u64);
 impl Generator {
     /// Builds a list where one is needed and walks it, as it is and in changed ways.
     pub fn walks(&mut self) {
-        let number = self.random.weighted(&[60, 15, 10, 8, 7]) as u64;
+        let number = self.random.weighted(&[40, 18, 16, 14, 12]) as u64;
         let page = 4096 << number;
         let most = MEMORY as u64 / page + 1;
         let n = match self.random.weighted(&[10, 15, 20, 30, 18, 7]) {
@@ -48,7 +48,11 @@ impl Generator {
         for _ in 0..self.random.below(5) {
             self.changed_walk(line, n);
         }
-        if let Some(entry) = self.random.choose(&list) {
+        // In every other walk an entry in the last place of its page, which may be a pointer.
+        let any_place = self.random.chance(50);
+        let spoilt: Vec<Listed> =
+            list.into_iter().filter(|(at, _)| any_place || at % page == page - 8).collect();
+        if let Some(entry) = self.random.choose(&spoilt) {
             self.damaged_walk(line, entry, page);
         }
     }
@@ -123,9 +127,15 @@ impl Generator {
                         self.random.pick(&[(8 * n + 5, 4 * n), (65_536, 65_536), (0, 0)])
                 }
                 3 => changed.prp1 |= self.random.within(1, 3),
-                4 => changed.prp2 ^= self.random.pick(&[1, 4, 8, 16, 2048]),
-                5 => changed.length = self.random.pick(&[0, 1_048_577, edge]),
-                6 => changed.page = self.random.pick(&[0, 1, 4, 5, 6, edge]),
+                4 => changed.prp2 ^= self.random.pick(&[1, 4, 8, 16, 2048, 4096]),
+                5 => {
+                    let lifted = self.random.lifted(line.length);
+                    changed.length = self.random.pick(&[0, 1_048_577, lifted, edge])
+                }
+                6 => {
+                    let lifted = self.random.lifted(line.page);
+                    changed.page = self.random.pick(&[0, 1, 4, 5, 6, lifted, edge])
+                }
                 7 | 8 => changed.length = self.random.within(1, line.length),
                 9 => {
                     changed.prp2 =
@@ -140,9 +150,10 @@ impl Generator {
 
     /// Spoils one entry of the list, or lends no more than a part of the list, and walks.
     fn damaged_walk(&mut self, line: WalkLine, (at, value): Listed, page: u64) {
-        match self.random.below(4) {
+        match self.random.weighted(&[50, 20, 20, 10]) {
             0 => {
-                let bits = self.random.pick(&[1, 8, 2048, page / 2]);
+                // 4,096 is an offset in larger pages alone.
+                let bits = self.random.pick(&[1, 8, 2048, 4096, 4096, page / 2]);
                 self.say(&format!("poke64 {at} {}", value ^ bits));
                 self.walk(line);
                 self.say(&format!("poke64 {at} {value}"));
@@ -258,8 +269,11 @@ impl Generator {
                 let edge = self.random.edge();
                 let room =
                     self.random.pick(&[16 * size, 16 * size, 16 * size - 1, 0, 16 * size + 16]);
-                let size = self.random.pick(&[size, size, size + 1, size - 1, 0, 1, 1025, edge]);
-                let head = self.random.pick(&[head, tail, size, 0, edge]);
+                let lifted = self.random.lifted(size);
+                let size =
+                    self.random.pick(&[size, size, size + 1, size - 1, 0, 1, 1025, lifted, edge]);
+                let lifted = self.random.lifted(head);
+                let head = self.random.pick(&[head, tail, size, 0, lifted, edge]);
                 let tag = self.random.pick(&[tag, 1 - tag, tag + 2, edge]);
                 self.say(&format!("waiting {base} {room} {size} {head} {tag}"));
             }
@@ -297,9 +311,10 @@ impl Generator {
         for place in &mut places {
             let below = self.random.below(size);
             let edge = self.random.edge();
-            *place = match self.random.weighted(&[92, 5, 3]) {
+            *place = match self.random.weighted(&[90, 5, 2, 3]) {
                 0 => below,
                 1 => size,
+                2 => self.random.lifted(below),
                 _ => edge,
             };
         }

@@ -60,6 +60,17 @@ impl Random {
         0
     }
 
+    /// One bit of a number of so many bits, mostly the highest.
+    pub fn one_bit(&mut self, width: u64) -> u64 {
+        let any = self.below(width);
+        1 << self.pick(&[width - 1, width - 1, any])
+    }
+
+    /// The number with a higher bit set too: the same to whom takes too few bits of it.
+    pub fn lifted(&mut self, number: u64) -> u64 {
+        number | 1 << self.pick(&[8, 16, 32, 63])
+    }
+
     /// A number at the edge of some range, or of a random width.
     pub fn edge(&mut self) -> u64 {
         const EDGES: [u64; 18] = [

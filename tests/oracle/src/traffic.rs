@@ -61,7 +61,7 @@ impl Generator {
     /// Adds one command, one pair or one broken pair to a batch, of at most `left` entries.
     fn add_commands(&mut self, id: usize, left: u64, entries: &mut Vec<Submission>) {
         let pairs = if id == 0 { 3 } else { 45 };
-        match self.random.weighted(&[50, pairs, 4, 4, 3, 6]) {
+        match self.random.weighted(&[50, pairs, 4, 4, 3, 6, 4]) {
             1 if left >= 2 => entries.extend(self.pair(id)),
             2 => entries.push(self.fused(id, 1)),
             3 => entries.push(self.fused(id, 2)),
@@ -69,6 +69,11 @@ impl Generator {
             5 if left >= 3 => {
                 entries.push(self.fused(id, 1));
                 entries.extend(self.pair(id));
+            }
+            6 if left >= 2 => {
+                let [first, mut second] = self.pair(id);
+                second.fuse = 3;
+                entries.extend([first, second]);
             }
             _ => entries.push(self.fused(id, 0)),
         }
@@ -95,18 +100,20 @@ impl Generator {
         }
     }
 
-    /// Mostly a new CID, else one of an outstanding command of this or of another SQ.
+    /// Mostly a new CID, else one of an outstanding command of this or of another SQ, as it is
+    /// or with one bit turned.
     fn cid(&mut self, id: usize) -> u64 {
-        if self.random.chance(8) {
+        if self.random.chance(12) {
             let tags = self.outstanding();
             let own: Vec<usize> = tags
                 .iter()
                 .copied()
                 .filter(|tag| self.command(*tag).is_some_and(|c| c.sq == id))
                 .collect();
+            let turned = if self.random.chance(40) { self.random.one_bit(16) } else { 0 };
             let from = if self.random.chance(70) { own } else { tags };
             if let Some(command) = self.random.choose(&from).and_then(|tag| self.command(tag)) {
-                return command.cid;
+                return command.cid ^ turned;
             }
         }
         self.last_cid = (self.last_cid + 1) % 65_536;
@@ -131,16 +138,19 @@ impl Generator {
 
     fn damage(&mut self, first: &mut Submission, second: &mut Submission) {
         match self.random.below(10) {
-            0 => first.opc = self.random.below(256),
-            1 => second.opc = self.random.below(256),
+            0 => first.opc ^= self.random.one_bit(8),
+            1 => {
+                let any = self.random.below(256);
+                second.opc = self.random.pick(&[0x08, 0x81, any]);
+            }
             2 => std::mem::swap(&mut first.opc, &mut second.opc),
-            3 => second.nsid ^= 1 << self.random.below(32),
-            4 => second.slba ^= 1 << self.random.below(64),
-            5 => second.nlb ^= 1 << self.random.below(16),
+            3 => second.nsid ^= self.random.one_bit(32),
+            4 => second.slba ^= self.random.one_bit(64),
+            5 => second.nlb ^= self.random.one_bit(16),
             6 => first.psdt = self.random.within(1, 3),
             7 => second.psdt = self.random.within(1, 3),
             8 => second.cid = first.cid,
-            _ => second.cid ^= 1 << self.random.below(16),
+            _ => second.cid = first.cid ^ self.random.one_bit(16),
         }
     }
 
@@ -199,7 +209,7 @@ impl Generator {
             Some(tag) => tag as u64,
             None if self.random.chance(25) => match self.random.choose(&free) {
                 Some(free) if self.random.chance(60) => free as u64,
-                _ => self.random.pick(&[64, 65, 1 << 32, u64::MAX]),
+                _ => self.no_tag(),
             },
             None => match self.random.choose(&unready) {
                 Some(unready) if self.random.chance(40) => unready as u64,
@@ -209,25 +219,36 @@ impl Generator {
         self.finish_tag(tag);
     }
 
+    /// A number too large for a tag, at times with an outstanding one in its low bits.
+    fn no_tag(&mut self) -> u64 {
+        let tag = self.random.choose(&self.outstanding()).unwrap_or(0) as u64;
+        let lifted = self.random.lifted(tag);
+        self.random.pick(&[64, 65, 1 << 32, u64::MAX, tag + 64, lifted])
+    }
+
     fn finish_tag(&mut self, tag: u64) {
         let any = self.random.below(32_768);
         let edge = self.random.edge();
         let status = match self.random.weighted(&[58, 40, 2]) {
             0 => 0,
             1 => self.random.pick(&[1, 2, 9, 0x285, 0x4002, 32_767, any]),
-            _ => self.random.pick(&[32_768, 65_536, 1 << 32, u64::MAX, edge]),
+            _ => {
+                self.random.pick(&[32_768, 65_536, any | 1 << 16, 1 << 32, 1 << 63, u64::MAX, edge])
+            }
         };
         let result = self.random.bits() >> self.random.within(32, 63);
+        let command = self.outstanding().into_iter().find(|found| *found as u64 == tag);
+        let sq = command.and_then(|tag| self.command(tag)).and_then(|command| self.sq(command.sq));
+        let cq = sq.map(|sq| sq.cq as u64);
         self.say(&format!("finish {tag} {status} {result}"));
-        if self.random.chance(12) {
-            self.show_last_posting();
+        if self.random.chance(30) {
+            self.show_last_posting(cq);
         }
     }
 
-    /// Looks at the bytes of the entry before the tail of some CQ.
-    fn show_last_posting(&mut self) {
-        let id = self.random.below(16);
-        if let Some(cq) = self.console.controller.cq(id) {
+    /// Looks at the bytes of the entry before the tail of a CQ.
+    fn show_last_posting(&mut self, cq: Option<u64>) {
+        if let Some(cq) = cq.and_then(|id| self.console.controller.cq(id)) {
             let at = cq.base + 16 * ((cq.tail + cq.size - 1) % cq.size);
             self.say(&format!("peek {at} 16"));
         }
@@ -248,12 +269,23 @@ impl Generator {
         self.say(&format!("head {id} {}", (head + step) % size));
     }
 
+    /// Mostly the number of a queue that may be there, else one above 15.
+    fn any_id(&mut self) -> u64 {
+        let id = self.random.below(16);
+        match self.random.weighted(&[82, 12, 6]) {
+            0 => id,
+            1 => self.random.edge(),
+            _ => self.random.lifted(id),
+        }
+    }
+
     fn odd_head(&mut self) {
-        let id = if self.random.chance(80) { self.random.below(16) } else { self.random.edge() };
+        let id = self.any_id();
         let (size, tail) = self.console.controller.cq(id).map_or((4, 0), |cq| (cq.size, cq.tail));
         let edge = self.random.edge();
         let any = self.random.below(size);
-        let value = self.random.pick(&[size, (tail + 1) % size, any, any, u64::MAX, edge]);
+        let lifted = self.random.lifted(tail);
+        let value = self.random.pick(&[size, (tail + 1) % size, any, any, lifted, u64::MAX, edge]);
         self.say(&format!("head {id} {value}"));
         if id < 16 && self.random.chance(50) {
             self.say(&format!("show-cq {id}"));
@@ -262,7 +294,7 @@ impl Generator {
 
     /// A tail write of the value held, of any SQ, marked or not there.
     fn tail(&mut self) {
-        let id = if self.random.chance(85) { self.random.below(16) } else { self.random.edge() };
+        let id = self.any_id();
         let tail = self.console.controller.sq(id).map_or(0, |sq| sq.tail);
         self.say(&format!("tail {id} {tail}"));
     }
@@ -279,12 +311,14 @@ impl Generator {
         let (size, head, tail) = (sq.size, sq.head, sq.tail);
         let edge = self.random.edge();
         let any = self.random.below(size);
+        let lifted = self.random.lifted(tail);
         let value = self.random.pick(&[
             size,
             size + 1,
             head,
             (tail + size - 1) % size,
             any,
+            lifted,
             u64::MAX,
             edge,
         ]);

@@ -36,31 +36,34 @@ pub fn walk(
         return Err(18);
     }
     let page = 4096u64 << page_number;
-    let first = length.min(page - prp1 % page);
-    let n = 1 + (length - first).div_ceil(page);
+    let n = touched(prp1, length, page);
     // "21 if either buffer has room for fewer; for the rig 8 and 4 bytes each".
     if rooms.addresses < 8 * n || rooms.counts < 4 * n {
         return Err(21);
     }
     let mut addresses = vec![prp1];
-    let reads = match n {
+    let mut entries = Vec::new();
+    match n {
         // "N = 1 ignores PRP2".
-        1 => 0,
+        1 => {}
         // "N = 2 takes PRP2 as a page with offset 0".
-        2 => {
-            addresses.push(at_offset_0(prp2, page)?);
-            0
-        }
-        _ => follow(memory, prp2, page, n as usize, &mut addresses)?,
+        2 => addresses.push(at_offset_0(prp2, page)?),
+        _ => read_list(memory, prp2, page, n, &mut entries)?,
     };
-    Ok(Walk { pages: counted(addresses, first, length, page), reads })
+    addresses.extend(entries.iter().filter(|entry| !entry.points).map(|entry| entry.value));
+    Ok(Walk { pages: counted(addresses, length, page), reads: entries.len() as u64 })
+}
+
+/// The number of pages that so many bytes from an address on touch.
+pub fn touched(address: u64, length: u64, page: u64) -> u64 {
+    (address % page + length).div_ceil(page)
 }
 
 /// Gives each address its byte count: the first as far as its page goes, the others a page
 /// each, the last what is left.
-fn counted(addresses: Vec<u64>, first: u64, length: u64, page: u64) -> Vec<(u64, u64)> {
+fn counted(addresses: Vec<u64>, length: u64, page: u64) -> Vec<(u64, u64)> {
     let mut left = length;
-    let mut room = first;
+    let mut room = page - addresses[0] % page;
     let mut pages = Vec::with_capacity(addresses.len());
     for address in addresses {
         let count = left.min(room);
@@ -89,36 +92,41 @@ fn entry(memory: &[u8], at: u64) -> Result<u64, u64> {
     Ok(get(memory, at, 8))
 }
 
-/// Reads the list until `n` addresses are known and answers the number of entries read.
+/// An entry of a list: what stands in it, and whether it points to the next list.
+pub struct Listed {
+    pub value: u64,
+    pub points: bool,
+}
+
+/// Reads the list for `n` pages of data, entry by entry, up to the first that is refused.
 /// "N of 3 or more takes it as a list address, a multiple of 8, any offset in its page."
-fn follow(
+pub fn read_list(
     memory: &[u8],
     list: u64,
     page: u64,
-    n: usize,
-    addresses: &mut Vec<u64>,
-) -> Result<u64, u64> {
+    n: u64,
+    entries: &mut Vec<Listed>,
+) -> Result<(), u64> {
     if list % 8 != 0 {
         return Err(18);
     }
     let mut at = list;
-    let mut reads = 0;
+    let mut left = n - 1;
     // "The walk ends at the entry that covers the last byte."
-    while addresses.len() < n {
+    while left > 0 {
         let value = entry(memory, at)?;
-        reads += 1;
-        // "List entries have offset 0."
-        at_offset_0(value, page)?;
-        let last_of_its_page = at % page == page - 8;
-        let pages_left = n - addresses.len();
         // "The last entry of a list page points to the next list, at offset 0, exactly if
         // more than one page of data is left."
-        if last_of_its_page && pages_left > 1 {
+        let points = at % page == page - 8 && left > 1;
+        entries.push(Listed { value, points });
+        // "List entries have offset 0."
+        at_offset_0(value, page)?;
+        if points {
             at = value;
         } else {
-            addresses.push(value);
             at += 8;
+            left -= 1;
         }
     }
-    Ok(reads)
+    Ok(())
 }
