@@ -1,4 +1,4 @@
-// The console on a random script, whose answers an independent implementation gave.
+// The console on a random script, whose answers the second implementation gave.
 fn main() {
     dialogue::run();
 }

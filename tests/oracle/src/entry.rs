@@ -20,7 +20,7 @@ pub struct Submission {
     pub prp2: u64,
     pub slba: u64,
     pub nlb: u64,
-    pub cdw12_high: u64,
+    pub cdw12_upper: u64,
     pub cdw13: u64,
     pub cdw14: u64,
     pub cdw15: u64,
@@ -64,7 +64,7 @@ impl Submission {
         put(entry, 32, 8, self.prp2);
         put(entry, 40, 8, self.slba);
         put(entry, 48, 2, self.nlb);
-        put(entry, 50, 2, self.cdw12_high);
+        put(entry, 50, 2, self.cdw12_upper);
         put(entry, 52, 4, self.cdw13);
         put(entry, 56, 4, self.cdw14);
         put(entry, 60, 4, self.cdw15);
@@ -85,7 +85,7 @@ impl Submission {
             prp2: get(entry, 32, 8),
             slba: get(entry, 40, 8),
             nlb: get(entry, 48, 2),
-            cdw12_high: get(entry, 50, 2),
+            cdw12_upper: get(entry, 50, 2),
             cdw13: get(entry, 52, 4),
             cdw14: get(entry, 56, 4),
             cdw15: get(entry, 60, 4),

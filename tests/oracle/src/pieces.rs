@@ -221,7 +221,7 @@ impl Generator {
             prp2: self.random.edge(),
             slba: self.random.bits(),
             nlb: self.random.below(65_536),
-            cdw12_high: self.random.below(65_536),
+            cdw12_upper: self.random.below(65_536),
             cdw13: self.random.below(1 << 32),
             cdw14: self.random.below(1 << 32),
             cdw15: self.random.below(1 << 32),
