@@ -38,7 +38,7 @@ use Rattle.controller.specs.Answers.{numberOf, Outcome, refusing}
 use Rattle.controller.specs.Create as create
 use Rattle.controller.specs.Doorbell as doorbell
 use Rattle.controller.specs.Starting as starting
-use Rattle.controller.specs.Starting.{candidateAt, candidates, isPair, headEntry, nextEntry, oneVerdict, pairVerdict, oneTaken}
+use Rattle.controller.specs.Starting.{candidates, isPair, headEntry, nextEntry, oneVerdict, pairVerdict, oneTaken}
 use Rattle.controller.specs.Starting.{pairTaken, withOne, withTwo, takeOne, takePair, takeFrom, startRules}
 use Rattle.controller.specs.Finishing as finishing
 use Rattle.controller.specs.Finishing.{cqOf, full}
@@ -265,14 +265,6 @@ module _ {c : Controller} (r : Reachable c) (m : Memory) (id v : ℕ) where
 -- how many commands a start takes from queue id, and so how many tags it needs
 abbrev pub needs : Controller → Memory → ℕ → ℕ
 needs c m id = pick (isPair id (sqAt c id .ring) m) 2 1
-
--- "A candidate is an unmarked SQ that is not empty."
-pub says-candidate : (c : Controller) (i : ℕ) → (let q = sqAt c i in
-    Says (candidateAt c i) ((q .ring .exists ≡ true) × ((q .marked ≡ true → ⊥) × (q .ring .head ≡ q .ring .tail → ⊥))))
-unfolding candidateAt
-says-candidate c i =
-    let q = sqAt c i in
-    says-and (says-is (q .ring .exists)) (says-and (says-not (says-is (q .marked))) (says-not (says-eq (q .ring .head) (q .ring .tail))))
 
 -- "If the chosen SQ needs more than are free"
 pub record TooFewTags (c : Controller) (m : Memory) : Type 0 where

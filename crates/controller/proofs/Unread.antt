@@ -1,5 +1,5 @@
 -- What a finish writes: its own 16 bytes and no others, and never a slot whose entry is still unread. Assumes nothing.
-use Prim.Native.Nat.{ℕ, suc, _+_, _-_, _<_, _≤_}
+use Prim.Native.Nat.{ℕ, suc, _+_, _-_, _*_, _<_, _≤_}
 use mathlib.Core.Bool.{true}
 use mathlib.Core.List.{List, []}
 use mathlib.Core.Logic.{_⊎_, ⊎-elim, _↔_}
@@ -31,6 +31,9 @@ use Rattle.controller.proofs.Exactly.{NoFreeSlot, beforeFull, finish-re
 use Rattle.controller.proofs.Written.{posts-to, fits, ring-posted, ring-kept}
 use Rattle.controller.proofs.Booked.{this-or-other}
 use Rattle.controller.proofs.Demand.{last, reachable, queue}
+
+same-slot : {x y : FinishAnswer} → finished x ≡ finished y → x .slot ≡ y .slot
+same-slot e = cc
 
 module _ {c : Controller} (r : Reachable c) (m : Memory) (tag status result : ℕ) where
   -- its refusal number, where its entry goes, and the entry's bytes
@@ -78,6 +81,11 @@ module _ {c : Controller} (r : Reachable c) (m : Memory) (tag status result : �
     pub finish-posts : part left spot 16 ≡ bytes
     finish-posts = rw writes (rw size at (part-put m spot bytes fit))
 
+    -- the slot that is answered is the one that holds it
+    pub answered-slot : {f : FinishAnswer} → perform c m (finish tag status result) .answer ≡ finished f
+        → part left (cqAt c (cqOf c tag) .ring .base + 16 * f .slot) 16 ≡ bytes
+    answered-slot e = rw (same-slot (sym e ∙ finish-answer)) finish-posts
+
     -- and every other byte of memory as it was
     pub finish-length : length left ≡ length m
     finish-length = ap length writes ∙ put-length m spot bytes fit
@@ -86,9 +94,6 @@ module _ {c : Controller} (r : Reachable c) (m : Memory) (tag status result : �
     finish-others i o = rw writes (put-out m spot bytes fit i (rw size o))
 
 -- ---- what is still unread
-
-same-slot : {x y : FinishAnswer} → finished x ≡ finished y → x .slot ≡ y .slot
-same-slot e = cc
 
 refused-no-slot : {n : ℕ} {x : FinishAnswer} → refused n ≡ finished x → ⊥
 refused-no-slot e = let z : _≡_ {A = ℕ} 0 1 = cc in omega arith
