@@ -96,8 +96,8 @@ extern "C" {
 #endif
 
 #define BELLRAFTER_VERSION_MAJOR 1
-#define BELLRAFTER_VERSION_MINOR 0
-#define BELLRAFTER_VERSION "1.0"
+#define BELLRAFTER_VERSION_MINOR 1
+#define BELLRAFTER_VERSION "1.1"
 
 /* The limits. */
 #define BELLRAFTER_STATE_WORDS 558      /* words of a controller's state */
