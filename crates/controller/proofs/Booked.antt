@@ -1,9 +1,8 @@
 -- Creations and doorbell writes keep the book's agreement with the controller. Assumes nothing.
 use Prim.Native.Nat.{ℕ, _*_, _<_}
-use mathlib.Core.Bool.{true, false}
 use mathlib.Core.List.{List, [], _∷_, foldl-append}
 use mathlib.Core.Logic.{⊎-elim}
-use mathlib.Core.Path.{_≡_, refl, sym, ap, subst⁻¹, _∙_}
+use mathlib.Core.Path.{_≡_, refl, sym, subst⁻¹, _∙_}
 use native.Mathlib.Omega.{arith}
 use lib.ListN.{length, getD, set}
 use lib.Seq.{getD-set-same, getD-set-other}
@@ -25,10 +24,10 @@ use Rattle.controller.specs.Calls.{Call, createCq, createSq, tailWrite, 
 use Rattle.controller.specs.Valid.{Valid}
 use Rattle.controller.specs.Book.{Book, BookCq, update, headBook, enter}
 use Rattle.controller.specs.Book as book
-use Rattle.controller.specs.Demand.{Cleared, standing}
+use Rattle.controller.specs.Demand.{Cleared}
 use Rattle.controller.proofs.Lists.{set-same}
 use Rattle.controller.proofs.Made.{NewCq, TakesHead}
-use Rattle.controller.proofs.Account.{bookSq, placeOf, Account, World, Next, agree-set}
+use Rattle.controller.proofs.Account.{bookSq, Account, World, Next, agree-set}
 
 -- a law of k that is shown of q, and of every other k
 pub this-or-other : (P : ℕ → Type 0) (q k : ℕ) → P q → ((k ≡ q → ⊥) → P k) → P k

@@ -2,14 +2,13 @@
 use Prim.Native.Nat.{ℕ, _+_, _-_, _<_, _≤_, _^_}
 use mathlib.Core.Bool.{Bool, true, false}
 use mathlib.Core.List.{List, [], _∷_, _++_}
-use mathlib.Core.Logic.{⊎-elim}
-use mathlib.Core.Path.{_≡_, refl, sym, ap, ap₂, _∙_}
+use mathlib.Core.Path.{_≡_, refl, sym, _∙_}
 use native.Mathlib.Omega.{arith}
 use lib.Dec.{eqb}
 use lib.ListN.{length, getD, set}
-use borrow.Author.Tests.{eq-eqb, ne-eqb, eqb-false}
+use borrow.Author.Tests.{eqb-false}
 use Rattle.rules.specs.Rules.{pick}
-use Rattle.rules.proofs.Tests.{clash, same-or-not}
+use Rattle.rules.proofs.Tests.{clash}
 use Rattle.le.specs.Memory.{Memory}
 use Rattle.entry.specs.declared.completion.Completion.{Completion}
 use Rattle.entry.proofs.Completions.{Within}

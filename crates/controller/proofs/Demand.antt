@@ -2,7 +2,7 @@
 -- nothing.
 use Prim.Native.Nat.{ℕ, _*_, _<_, _^_}
 use mathlib.Core.List.{List, [], _∷_, foldl}
-use mathlib.Core.Path.{_≡_, refl, sym, ap, _∙_}
+use mathlib.Core.Path.{_≡_, sym, ap, _∙_}
 use native.Mathlib.Nat.{mod-eq-of-lt}
 use native.Mathlib.Omega.{arith}
 use lib.ListN.{length}
@@ -10,7 +10,7 @@ use borrow.Author.Tests.{le-ltb, lt-leb}
 use Rattle.rules.proofs.Tests.{in-range}
 use Rattle.rules.proofs.Tables.{settle-accepted}
 use Rattle.le.specs.Memory.{Memory, Bytes}
-use Rattle.ring.specs.Reader.{readSlots, found, readerRefusal, ringRead}
+use Rattle.ring.specs.Reader.{readSlots, readerRefusal, ringRead}
 use Rattle.ring.proofs.Phase.{counts, finds, reader-phase-in}
 use Rattle.ring.specs.declared.reader.Waiting.the-variants.{Count, Refused}
 use Rattle.controller.specs.Controller.{Controller}
@@ -28,7 +28,7 @@ use Rattle.controller.proofs.Made.{moves-head, commands, made}
 use Rattle.controller.proofs.Answered.{answered}
 use Rattle.controller.proofs.Steps.{reached}
 use Rattle.controller.proofs.Validity.{valid}
-use Rattle.controller.proofs.Account.{Queue, placeOf, World, Next, world-fresh, kept}
+use Rattle.controller.proofs.Account.{Queue, World, Next, world-fresh, kept}
 use Rattle.controller.proofs.Booked.{next-refused, next-marked, next-tail, next-create-sq, next-create-cq, next-head}
 use Rattle.controller.proofs.BookedStart.{next-one, next-pair}
 use Rattle.controller.proofs.BookedFinish.{next-finish}

@@ -2,11 +2,10 @@
 use Prim.Native.Nat.{ℕ, _+_, _*_, _%_, _^_, _≤_, _<_}
 use mathlib.Core.Bool.{true, false}
 use mathlib.Core.List.{List}
-use mathlib.Core.Path.{_≡_, refl}
+use mathlib.Core.Path.{_≡_, refl, subst}
 use native.Mathlib.Omega.{arith}
 use lib.ListN.{length}
 use borrow.Author.Tests.{ltb-false, eqb-true}
-use Rattle.rules.specs.Rules.{firstMatch}
 use Rattle.rules.proofs.Tests.{or-false, not-no, range}
 use Rattle.rules.proofs.Tables.{Unapplied, passed}
 use Rattle.bits.specs.Tags.{takenOne, takenTwo}
@@ -25,7 +24,7 @@ use Rattle.controller.specs.declared.SubmissionQueue.{SubmissionQueue}
 use Rattle.controller.specs.declared.CompletionQueue.{CompletionQueue}
 use Rattle.controller.specs.State.{sqAt, cqAt, commandAt, outstanding, withQueues, withSq, withCq}
 use Rattle.controller.specs.Rings.{shares, outside}
-use Rattle.controller.specs.Answers.{refused, done, finished, Outcome, outcome}
+use Rattle.controller.specs.Answers.{StartAnswer, Answer, refused, done, started, finished, Outcome, outcome}
 use Rattle.controller.specs.Create as create
 use Rattle.controller.specs.Create.{ringRules, createCqRules, createSqRules, createCqRefusal, createSqRefusal, newCq, newSq}
 use Rattle.controller.specs.Doorbell as doorbell
@@ -262,3 +261,31 @@ module _ (c : Controller) (m : Memory) where
   made h (headWrite id v) = head-made id v
   made h start = start-made h
   made h (finish tag status result) = finish-made tag status result
+
+-- ---- what a start answers
+
+-- P of what a start took, where the answer is that of a start
+abbrev IfStarted : (StartAnswer → Type 0) → Answer → Type 0
+IfStarted P (refused n) = Unit {0}
+IfStarted P done = Unit {0}
+IfStarted P (started s) = P s
+IfStarted P (finished f) = Unit {0}
+
+-- what holds of one command that is taken, and of a pair, with the controller left, holds of what a start answers
+module _ (c : Controller) (m : Memory) (P : StartAnswer → Controller → Type 0) where
+  abbrev Shown : Outcome → Type 0
+  Shown o = IfStarted (λ s. P s (o .controller)) (o .answer)
+
+  module _ (one : (id : ℕ) (a : Arbiter) (t left : ℕ) → Served c m id a → isPair id (sqAt c id .ring) m ≡ false → OneTaken (c .free) t left
+      → Shown (oneTaken c m id a (headEntry c m id) (oneVerdict c m id) t left))
+      (pair : (id : ℕ) (a : Arbiter) (t u left : ℕ) → Served c m id a → isPair id (sqAt c id .ring) m ≡ true → TwoTaken (c .free) t u left
+      → Shown (pairTaken c m id a (headEntry c m id) (nextEntry c m id) (pairVerdict c m id) t u left)) where
+    shown : {call : Call} {o : Outcome} → Commands c m call o → Shown o
+    shown (refused-leaves call n xs) = tt
+    shown (done-leaves call xs ys) = tt
+    shown (changes (takes-one id a t left s e w)) = one id a t left s e w
+    shown (changes (takes-pair id a t u left s e w)) = pair id a t u left s e w
+    shown (changes (finishes tag status result f)) = tt
+
+    pub of-start : c .free < 2 ^ 64 → {s : StartAnswer} → perform c m start .answer ≡ started s → P s (perform c m start .controller)
+    of-start h e = subst (IfStarted (λ s. P s (perform c m start .controller))) e (shown (of-commands (made c m h start)))

@@ -8,7 +8,7 @@ use Rattle.controller.specs.Controller.{Controller}
 use Rattle.controller.specs.State.{sqAt, withSq}
 use Rattle.controller.specs.Doorbell.{mark}
 use Rattle.controller.specs.Starting.{oneTaken, pairTaken}
-use Rattle.controller.specs.Answers.{StartAnswer, FinishAnswer, Answer, refused, done, started, finished, Outcome}
+use Rattle.controller.specs.Answers.{StartAnswer, FinishAnswer, refused, done, started, finished, Outcome}
 use Rattle.controller.specs.Calls.{Call, tailWrite}
 use Rattle.controller.proofs.Made.{takes-one, takes-pair, finishes, Made, refuses, marks, creates-cq, creates-sq, moves-tail}
 use Rattle.controller.proofs.Made.{moves-head, commands}

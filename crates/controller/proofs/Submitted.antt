@@ -2,7 +2,7 @@
 use Prim.Native.Nat.{ℕ, _+_, _%_, _≤_, _<_}
 use mathlib.Core.Bool.{true, false, not}
 use mathlib.Core.Logic.{⊎-elim}
-use mathlib.Core.Path.{_≡_, refl, subst}
+use mathlib.Core.Path.{_≡_, refl}
 use native.Mathlib.Omega.{arith}
 use lib.Dec.{eqb}
 use lib.ListN.{length, set}
@@ -17,12 +17,11 @@ use Rattle.controller.specs.Controller.{Controller}
 use Rattle.controller.specs.State.{noSq, sqAt}
 use Rattle.controller.specs.Starting.{entryAt, isPair, passed, oneTaken, pairTaken}
 use Rattle.controller.specs.Valid.{Valid}
-use Rattle.controller.specs.Answers.{StartAnswer, Answer, refused, done, started, finished, Outcome}
-use Rattle.controller.specs.Calls.{Call, start, Reachable, perform}
+use Rattle.controller.specs.Answers.{StartAnswer, started}
+use Rattle.controller.specs.Calls.{start, Reachable, perform}
 use Rattle.controller.proofs.Choosing.{Candidate}
 use Rattle.controller.proofs.Classes.{candidate-exact}
-use Rattle.controller.proofs.Made.{takes-one, takes-pair, finishes, Commands, refused-leaves, done-leaves, changes, of-commands}
-use Rattle.controller.proofs.Made.{made}
+use Rattle.controller.proofs.Made.{of-start}
 use Rattle.controller.proofs.Validity.{valid}
 
 -- how many commands are submitted to a queue and not yet taken
@@ -69,23 +68,13 @@ module _ {c : Controller} (v : Valid c) where
       let s = getD-set-same (c .sqs) id (passed (sqAt c id) n) noSq l in
       record { here = q .0; unmarked = q .1; submitted = h; head-after = rw (e, s) refl; tail-after = rw (e, s) refl }
 
-  -- what an answer says was taken
-  abbrev Told : Controller → Answer → Type 0
-  Told d (refused n) = Unit {0}
-  Told d done = Unit {0}
-  Told d (started s) = Taken c d (s .sq) (s .count)
-  Told d (finished f) = Unit {0}
-
-  told : {m : Memory} {call : Call} {o : Outcome} → Commands c m call o → Told (o .controller) (o .answer)
-  unfolding oneTaken pairTaken
-  told (refused-leaves call n xs) = tt
-  told (done-leaves call xs ys) = tt
-  told (changes (takes-one id a t left s e w)) = moved _ id 1 (s .candidate) (one-submitted id (s .candidate)) refl
-  told {m} (changes (takes-pair id a t u left s e w)) = moved _ id 2 (s .candidate) (two-submitted id (sqAt c id .ring) m e) refl
-  told (changes (finishes tag status result r)) = tt
-
 -- whatever a start takes is known to be submitted, to a queue that exists and is not marked
 pub taken : {c : Controller} → Reachable c → (m : Memory) {s : StartAnswer}
     → perform c m start .answer ≡ started s → Taken c (perform c m start .controller) (s .sq) (s .count)
+unfolding oneTaken pairTaken
 taken {c} r m e =
-    let v = valid r in subst (Told v (perform c m start .controller)) e (told v (of-commands (made c m (v .free-64) start)))
+    let v = valid r in
+    of-start c m (λ s d. Taken c d (s .sq) (s .count))
+    (λ id a t left s p w. moved v _ id 1 (s .candidate) (one-submitted v id (s .candidate)) refl)
+    (λ id a t u left s p w. moved v _ id 2 (s .candidate) (two-submitted id (sqAt c id .ring) m p) refl)
+    (v .free-64) e

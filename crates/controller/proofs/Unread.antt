@@ -22,7 +22,7 @@ use Rattle.controller.specs.Controller.{Controller}
 use Rattle.controller.specs.State.{cqAt, commandAt}
 use Rattle.controller.specs.Finishing as finishing
 use Rattle.controller.specs.Finishing.{cqOf, full, finishRefusal, completionOf, statusOf, finishedController, tailOf, postedMemory}
-use Rattle.controller.specs.Answers.{FinishAnswer, Answer, refused, done, started, finished, numberOf, Outcome, outcome, refusing}
+use Rattle.controller.specs.Answers.{FinishAnswer, Answer, refused, done, started, finished, numberOf, outcome, refusing}
 use Rattle.controller.specs.Calls.{Reachable, finish, perform}
 use Rattle.controller.specs.Demand.{History, ringOf, ringBytes, sizeOf, unreleased, bookHead}
 use Rattle.controller.proofs.Made.{finishable}

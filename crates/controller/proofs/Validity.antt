@@ -28,7 +28,7 @@ use Rattle.controller.specs.State.{noSq, noCq, noCommand, sqAt, cqAt, co
 use Rattle.controller.specs.State.{sqWithRing, withCommands, freshController}
 use Rattle.controller.specs.Valid.{RingOk, CommandOk, Valid}
 use Rattle.controller.specs.Create.{newRing}
-use Rattle.controller.specs.Doorbell.{validTail, validHead, mark}
+use Rattle.controller.specs.Doorbell.{mark}
 use Rattle.controller.specs.Verdict.{oneRules, pairRules, verdictOne, verdictPair}
 use Rattle.controller.specs.Starting.{candidateAt, passed, oneTaken, pairTaken}
 use Rattle.controller.specs.Finishing.{cqOf, unlinked, posted, finishedController}

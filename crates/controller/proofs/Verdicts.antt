@@ -3,7 +3,7 @@ use Prim.Native.Nat.{ℕ, _+_, _%_, _≤_, _<_}
 use mathlib.Core.Bool.{Bool, true, false, _&&_}
 use mathlib.Core.List.{[], _∷_}
 use mathlib.Core.Logic.{_⊎_, inl, inr, ⊎-elim, _↔_}
-use mathlib.Core.Path.{_≡_, refl, subst}
+use mathlib.Core.Path.{_≡_, refl}
 use native.Mathlib.Nat.{mod-lt}
 use native.Mathlib.Omega.{arith}
 use lib.Dec.{lit<, eqb}
@@ -20,10 +20,9 @@ use Rattle.controller.specs.Controller.{Controller}
 use Rattle.controller.specs.State.{sqAt, commandAt}
 use Rattle.controller.specs.Verdict.{uses, inUse, oneRules, verdictOne, pairRules, verdictPair}
 use Rattle.controller.specs.Starting.{entryAt, isPair, used, headEntry, nextEntry, oneTaken, pairTaken}
-use Rattle.controller.specs.Answers.{StartAnswer, Answer, refused, done, started, finished, Outcome}
-use Rattle.controller.specs.Calls.{Call, start, Reachable, perform}
-use Rattle.controller.proofs.Made.{takes-one, takes-pair, finishes, Commands, refused-leaves, done-leaves, changes, of-commands}
-use Rattle.controller.proofs.Made.{made}
+use Rattle.controller.specs.Answers.{StartAnswer, started}
+use Rattle.controller.specs.Calls.{start, Reachable, perform}
+use Rattle.controller.proofs.Made.{of-start}
 use Rattle.controller.proofs.Validity.{valid}
 use Rattle.controller.proofs.Exactly.{Outstanding, says-out}
 
@@ -292,23 +291,12 @@ module _ (c : Controller) (m : Memory) where
       ((s .count ≡ 1) × (Pair (s .sq) r m → ⊥) × OneJudged c (s .sq) e (s .verdict))
       ⊎ ((s .count ≡ 2) × Pair (s .sq) r m × PairJudged c (s .sq) e (nextEntry c m (s .sq)) (s .verdict))
 
-  abbrev Told : Answer → Type 0
-  Told (refused n) = Unit {0}
-  Told done = Unit {0}
-  Told (started s) = AsJudged s
-  Told (finished f) = Unit {0}
-
-  told : {call : Call} {o : Outcome} → Commands c m call o → Told (o .answer)
-  unfolding oneTaken pairTaken
-  told (refused-leaves call n xs) = tt
-  told (done-leaves call xs ys) = tt
-  told (changes (takes-one id a t left s e w)) =
-      let k = sqAt c id .ring in
-      inl (refl, is-pair id k m .no e, one-verdict c id (headEntry c m id) (fuse-low m k (k .head)))
-  told (changes (takes-pair id a t u left s e w)) =
-      inr (refl, is-pair id (sqAt c id .ring) m .yes e, pair-verdict c id (headEntry c m id) (nextEntry c m id))
-  told (changes (finishes tag status result r)) = tt
-
 pub verdict-answered : {c : Controller} → Reachable c → (m : Memory) {s : StartAnswer}
     → perform c m start .answer ≡ started s → AsJudged c m s
-verdict-answered {c} r m e = subst (Told c m) e (told c m (of-commands (made c m (valid r .free-64) start)))
+unfolding oneTaken pairTaken
+verdict-answered {c} r m e =
+    of-start c m (λ s d. AsJudged c m s)
+    (λ id a t left s p w. let k = sqAt c id .ring in
+    inl (refl, is-pair id k m .no p, one-verdict c id (headEntry c m id) (fuse-low m k (k .head))))
+    (λ id a t u left s p w.
+    inr (refl, is-pair id (sqAt c id .ring) m .yes p, pair-verdict c id (headEntry c m id) (nextEntry c m id))) (valid r .free-64) e
