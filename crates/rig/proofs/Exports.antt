@@ -3,12 +3,11 @@ use Prim.Native.Nat.{ℕ, _≤_, _<_}
 use mathlib.Core.Bool.{Bool, true, false, not}
 use mathlib.Core.List.{List}
 use mathlib.Core.Logic.{⊎-elim}
-use mathlib.Core.Path.{_≡_, refl, sym, ap, _∙_}
+use mathlib.Core.Path.{_≡_, sym, ap, _∙_}
 use borrow.Author.Tests.{eq-eqb, ne-eqb, lt-ltb, le-ltb}
 use Rattle.rules.specs.Rules.{settle}
 use Rattle.rules.proofs.Tests.{same-or-not}
 use Rattle.le.specs.Memory.{Memory}
-use Rattle.arbiter.specs.declared.Arbiter.{Arbiter}
 use Rattle.controller.specs.declared.SubmissionQueue.{SubmissionQueue}
 use Rattle.controller.specs.declared.CompletionQueue.{CompletionQueue}
 use Rattle.controller.specs.declared.Command.{Command}

@@ -1,14 +1,10 @@
 -- What stores do to the controller that the words hold: one queue, one command, the mask or the arbiter is another. Assumes nothing.
 use Prim.Native.Nat.{ℕ, _+_, _*_, _≤_, _<_}
-use mathlib.Core.List.{List, [], _∷_}
-use mathlib.Core.Path.{_≡_, refl, sym}
+use mathlib.Core.List.{List}
+use mathlib.Core.Path.{_≡_}
 use native.Mathlib.Omega.{arith}
 use lib.Dec.{lit≤, lit<}
 use lib.ListN.{length, set}
-use Rattle.arbiter.specs.declared.Arbiter.{Arbiter}
-use Rattle.controller.specs.declared.SubmissionQueue.{SubmissionQueue}
-use Rattle.controller.specs.declared.CompletionQueue.{CompletionQueue}
-use Rattle.controller.specs.declared.Command.{Command}
 use Rattle.controller.specs.State.{noSq, noCq, noCommand, sqAt, cqAt, commandAt, withSq, withCq, withCommands}
 use Rattle.store.specs.Held.{word, from, sqFrom, cqFrom, commandFrom, arbiterFrom, sqOf, cqOf, commandOf, arbiterOf, table, held}
 use Rattle.store.specs.Held.{Sound, Holds}

@@ -7,12 +7,10 @@ use mathlib.Core.Path.{_≡_, refl, sym, ap, _∙_}
 use native.Mathlib.Nat.{mod-lt, mod-eq-of-lt}
 use native.Mathlib.Omega.{arith}
 use lib.Dec.{lit<}
-use lib.ListN.{length, getD}
 use lib.Seq.{ext-getD}
 use borrow.Author.Tests.{lt-ltb, le-ltb, ne-eqb}
 use Rattle.rules.proofs.Tests.{lt-or-ge}
 use Rattle.le.specs.Memory.{Memory}
-use Rattle.arbiter.specs.declared.Remainder.{Remainder}
 use Rattle.arbiter.specs.declared.Remainder.the-variants.{Left, NoLimit}
 use Rattle.arbiter.specs.declared.Arbiter.{Arbiter}
 use Rattle.controller.specs.declared.SubmissionQueue.{SubmissionQueue}
@@ -28,7 +26,7 @@ use Rattle.controller.proofs.Refusals.{Marked, refusal-leaves}
 use Rattle.store.specs.Held.{word, from, flag, remainderFrom, sqFrom, cqFrom, commandFrom, arbiterFrom, sqOf, cqOf, commandOf}
 use Rattle.store.specs.Held.{arbiterOf, held, limitAt, Sound, Reached}
 use Rattle.store.proofs.Stores.{sq-held, cq-held, command-held}
-use Rattle.store.proofs.Setters.{limit-16, limit-64, limit-96, limit-128, limit-144}
+use Rattle.store.proofs.Setters.{limit-64, limit-96, limit-128}
 use Rattle.store.proofs.Setters.{limit-192, limit-208, limit-288, limit-416, limit-544}
 
 -- ---- numbers that stand for the same

@@ -1,5 +1,4 @@
 -- `takes_tail` meets its contract. Assumes nothing.
-use Prim.Native.Nat.{_≤_, _<_}
 use borrow.Author.Needs.{needs}
 use Rattle.doorbells.proofs.takes_tail.Statement.{statement}
 use Rattle.doorbells.proofs.takes_tail.Tie as tie

@@ -1,6 +1,5 @@
 -- `finish` meets its contract. Assumes nothing.
 use mathlib.Core.Path.{_≡_, refl}
-use native.Mathlib.Omega.{arith}
 use lib.ListN.{length}
 use borrow.Author.Needs.{needs}
 use Rattle.controller.specs.Finishing.{finishRefusal}

@@ -1,9 +1,8 @@
 -- `create_cq` meets its contract. Assumes nothing.
-use mathlib.Core.Path.{sym, ap, _∙_}
+use mathlib.Core.Path.{sym, _∙_}
 use native.Mathlib.Omega.{arith}
 use lib.ListN.{length}
 use borrow.Author.Needs.{needs}
-use Rattle.controller.specs.State.{withCq}
 use Rattle.controller.proofs.Made.{NewCq, new-cq}
 use Rattle.store.specs.Held.{held}
 use Rattle.queues.proofs.Creates.{cq-refused, cq-created}

@@ -1,9 +1,8 @@
 -- `create_sq` meets its contract. Assumes nothing.
-use mathlib.Core.Path.{sym, ap, _∙_}
+use mathlib.Core.Path.{sym, _∙_}
 use native.Mathlib.Omega.{arith}
 use lib.ListN.{length}
 use borrow.Author.Needs.{needs}
-use Rattle.controller.specs.State.{withSq}
 use Rattle.controller.proofs.Made.{NewSq, new-sq}
 use Rattle.controller.proofs.Validity.{cq-below, valid}
 use Rattle.store.specs.Held.{held}
