@@ -6,7 +6,7 @@ use mathlib.Core.Path.{_≡_, refl, sym, ap, _∙_}
 use native.Mathlib.Nat.{min-eq-left, min-eq-right, eq-zero-or-pos}
 use native.Mathlib.Omega.{arith}
 use borrow.Author.Tests.{lt-ltb}
-use Rattle.rules.proofs.Tests.{bool-cases, clash, or-false}
+use Rattle.rules.proofs.Tests.{bool-cases, clash, or-false, or-true}
 use Rattle.bits.specs.Bits.{isSet}
 use Rattle.bits.proofs.Some.{some-found, some-which}
 use Rattle.arbiter.specs.declared.Remainder.{Remainder}
@@ -105,10 +105,6 @@ module _ (p : ℕ → Bool) where
 -- a level with a candidate has no credit
 abbrev pub Dry : Level → (ℕ → Bool) → Type 0
 Dry l p = Has p → l .credit ≡ 0
-
-or-true : (a b : Bool) → (a || b) ≡ true → (a ≡ true) ⊎ (b ≡ true)
-or-true true b e = inl refl
-or-true false b e = inr e
 
 module _ (a : Arbiter) (c : Candidates) where
   abbrev high : ℕ → Bool

@@ -1,6 +1,6 @@
 -- Which refusal number a call answers, exactly when: the tables once more, in propositions. Assumes nothing.
 use Prim.Native.Nat.{ℕ, _+_, _*_, _%_, _^_, _≤_, _<_}
-use mathlib.Core.Bool.{Bool, true, false, not, _||_}
+use mathlib.Core.Bool.{Bool, true, false, not}
 use mathlib.Core.List.{[], _∷_, _++_}
 use mathlib.Core.Logic.{_⊎_, inl, inr, ⊎-elim}
 use mathlib.Core.Path.{_≡_, refl, sym, ap, _∙_}
@@ -9,7 +9,7 @@ use lib.Dec.{T, ltb, ltb→lt, eqb}
 use lib.ListN.{length}
 use borrow.Author.Tests.{lt-ltb}
 use Rattle.rules.specs.Rules.{pick, Table, firstMatch, settle}
-use Rattle.rules.proofs.Tests.{bool-cases, lt-or-ge, not-not, clash, and-true}
+use Rattle.rules.proofs.Tests.{lt-or-ge, clash, or-true, and-true}
 use Rattle.rules.proofs.Tables.{both, numbered, settle-refused}
 use Rattle.rules.proofs.Cases.{pick-cases}
 use Rattle.rules.proofs.Exactly.{Says, says-is, says-lt, says-eq, says-not, says-as, says-and, says-or, says-pick, says-outside}
@@ -77,12 +77,8 @@ share-exactly a k b l =
 module _ {c : Controller} (v : Valid c) where
   found : (p : RingTest) → someRing c p ≡ true → SomeRing c (λ x. p (entryOf x) (ringAt c x) ≡ true)
   unfolding someRing
-  found p e = ⊎-elim of-sq (λ n. of-cq (or-else _ _ n e)) (bool-cases (someSq (c .sqs) p))
+  found p e = ⊎-elim of-sq of-cq (or-true (someSq (c .sqs) p) (someCq (c .cqs) p) e)
     where
-      or-else : (a b : Bool) → a ≡ false → (a || b) ≡ true → b ≡ true
-      or-else true b n f = absurd (clash refl n)
-      or-else false b n f = f
-
       of-sq : someSq (c .sqs) p ≡ true → SomeRing c (λ x. p (entryOf x) (ringAt c x) ≡ true)
       of-sq f =
           let w = some-which 16 (λ i. existing p 64 (sqAt c i .ring)) f in
@@ -241,7 +237,7 @@ module _ {c : Controller} (r : Reachable c) (m : Memory) (id v : ℕ) where
       settled c m _ (doorbell.tailRules c id) ((15 < id, 1) ∷ ((k .exists ≡ true → ⊥), 9) ∷ (q .marked ≡ true, 11) ∷ [])
       (((TailValue (k .size) (k .head) (k .tail) v → ⊥), 10) ∷ []) tt
       (refl, says-lt 15 id, λ a. (refl, says-not (says-is (k .exists)), λ b. (refl, says-is (q .marked), λ d. tt)))
-      (λ o. let h = valid r .sq-ok id (not-not (k .exists) (o .1 .0)) in
+      (λ o. let h = valid r .sq-ok id (says-sure (says-is (k .exists)) (o .1 .0)) in
       last-row _ _ (says-tail (k .size) (k .head) (k .tail) v (h .head-below)) refl refl)
 
   pub head-write : Decided (headReasons c id v) (number (perform c m (headWrite id v)))
@@ -255,7 +251,8 @@ module _ {c : Controller} (r : Reachable c) (m : Memory) (id v : ℕ) where
           refl,
           says-not (says-is (k .exists)),
           λ b.
-              (refl, says-not (says-head (k .size) (k .head) (k .tail) v (valid r .cq-ok id (not-not (k .exists) b) .head-below)), λ d. tt),
+              let h = valid r .cq-ok id (says-sure (says-is (k .exists)) b) in
+              (refl, says-not (says-head (k .size) (k .head) (k .tail) v (h .head-below)), λ d. tt),
         ),
       )
       (λ o. refl)

@@ -10,7 +10,6 @@ use lib.Dec.{lit<, eqb}
 use Rattle.rules.proofs.Exactly.{Says, says-le, says-eq, says-not, says-as, says-and, says-or, says-sure, Reasons, Decided, decided}
 use Rattle.bits.specs.Bits.{someBelow}
 use Rattle.bits.proofs.Some.{some-which, none-some}
-use Rattle.rules.proofs.Tests.{same-or-not}
 use Rattle.le.specs.Memory.{Memory}
 use Rattle.entry.specs.Submission.{submissionAt}
 use Rattle.entry.specs.declared.submission.Submission.{Submission}
@@ -112,9 +111,6 @@ module _ {v : ℕ} {A B C D : Type 0} where
 abbrev OneOf : ℕ → Type 0 → Type 0 → Type 0 → Type 0 → Type 0
 OneOf v A B C D = (A × (v ≡ 0x00)) ⊎ ((B × (v ≡ 0x02)) ⊎ ((C × (v ≡ 0x03)) ⊎ (D × (v ≡ 0x0a))))
 
-is-zero : {n : ℕ} → ((n ≡ 0 → ⊥) → ⊥) → n ≡ 0
-is-zero {n} h = ⊎-elim (λ y. y) (λ y. absurd (h y)) (same-or-not n 0)
-
 -- ---- one command, the entry e, taken alone from queue id
 
 module _ (c : Controller) (id : ℕ) (e : Submission) where
@@ -179,14 +175,17 @@ module _ (c : Controller) (id : ℕ) (e : Submission) where
       three : Missing → e .fuse ≡ 3 → ⊥
       three y z = ⊎-elim (λ u. omega (arith, u, z)) (λ u. omega (arith, u, z)) (y .1)
 
+      prps : ((e .psdt ≡ 0 → ⊥) → ⊥) → e .psdt ≡ 0
+      prps = says-sure (says-eq (e .psdt) 0)
+
       sort : {v : ℕ} → Decided oneReasons v → OneOf v Fine Invalid Conflict Missing
       sort (inl p) = inr (inl (inl (p .0), p .1))
       sort (inr (a, inl p)) = inr (inl (inr (inl (p .0)), p .1))
       sort (inr (a, inr (b, inl p))) = inr (inr (inr ((λ z. a (z, λ y. omega (arith, y, p .0)), inr (p .0)), p .1)))
       sort (inr (a, inr (b, inr (d, inl p)))) = inr (inr (inr ((λ z. a (z, λ y. omega (arith, y, p .0)), inl (p .0)), p .1)))
       sort (inr (a, inr (b, inr (d, inr (f, inl p))))) = inr (inl (inr (inr (omega (arith, l, b, d, f), p .0)), p .1))
-      sort (inr (a, inr (b, inr (d, inr (f, inr (g, inl p)))))) = inr (inr (inl ((omega (arith, l, b, d, f), is-zero g, p .0), p .1)))
-      sort (inr (a, inr (b, inr (d, inr (f, inr (g, inr (h, z))))))) = inl ((omega (arith, l, b, d, f), is-zero g, h), z)
+      sort (inr (a, inr (b, inr (d, inr (f, inr (g, inl p)))))) = inr (inr (inl ((omega (arith, l, b, d, f), prps g, p .0), p .1)))
+      sort (inr (a, inr (b, inr (d, inr (f, inr (g, inr (h, z))))))) = inl ((omega (arith, l, b, d, f), prps g, h), z)
 
 -- ---- a pair, the entries a and b, taken from queue id
 
