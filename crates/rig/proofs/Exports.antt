@@ -16,7 +16,8 @@ use Rattle.controller.specs.State.{sqAt, cqAt, commandAt, outstanding}
 use Rattle.controller.specs.Answers.{Answer, numberOf, Outcome, outcome}
 use Rattle.controller.specs.Calls.{ofNumber}
 use Rattle.store.specs.Held.{held, Sound, Holds}
-use Rattle.rig.specs.Numbers.{noSqNumbers, sqNumbers, noCqNumbers, cqNumbers, commandNumbers, bitOf}
+use Rattle.replay.specs.Replay.{Ended, ended}
+use Rattle.rig.specs.Numbers.{replayNumbers, noSqNumbers, sqNumbers, noCqNumbers, cqNumbers, commandNumbers, bitOf}
 
 -- ---- calls
 
@@ -38,6 +39,16 @@ module _ {a : Answer} {u : List ℕ} {left : Memory} {o : Outcome} (s : Sound u)
 pub numbered : {n : ℕ} {u : List ℕ} {left : Memory} {o : Outcome} → Sound u → outcome (ofNumber n) (held u) left ≡ o
     → (n ≡ numberOf (o .answer)) × Holds u (o .controller)
 numbered {n} s e = (sym (number-is n) ∙ ap numberOf (answered s e), left-held s e)
+
+-- of a replay
+pub replayed : {a : ℕ × ℕ} {u left room : List ℕ} {e : Ended} → Sound u → ended a (held u) left room ≡ e
+    → (replayNumbers a ≡ replayNumbers (e .answer)) × Holds u (e .controller) × (left ≡ e .memory) × (room ≡ e .room)
+replayed s q = (
+  ap (λ (x : Ended). replayNumbers (x .answer)) q,
+  record { sound = s; is = ap (λ (x : Ended). x .controller) q },
+  ap (λ (x : Ended). x .memory) q,
+  ap (λ (x : Ended). x .room) q,
+)
 
 -- ---- looks
 

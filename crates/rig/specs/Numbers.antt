@@ -12,6 +12,7 @@ use Rattle.controller.specs.State.{sqAt, cqAt, commandAt, outstanding}
 use Rattle.controller.specs.Answers.{Answer, refused, done, started, finished}
 use Rattle.rig.specs.declared.state.StartNumbers.{StartNumbers}
 use Rattle.rig.specs.declared.state.FinishNumbers.{FinishNumbers}
+use Rattle.rig.specs.declared.state.ReplayNumbers.{ReplayNumbers}
 use Rattle.rig.specs.declared.state.SqNumbers.{SqNumbers}
 use Rattle.rig.specs.declared.state.CqNumbers.{CqNumbers}
 use Rattle.rig.specs.declared.state.CommandNumbers.{CommandNumbers}
@@ -40,6 +41,10 @@ finishNumbers (refused n) = record { refusal = n; slot = 0 }
 finishNumbers done = record { refusal = 0; slot = 0 }
 finishNumbers (started s) = record { refusal = 0; slot = 0 }
 finishNumbers (finished f) = record { refusal = 0; slot = f .slot }
+
+-- the refusal, and how many answer records were written
+abbrev pub replayNumbers : ℕ × ℕ → ReplayNumbers
+replayNumbers a = record { refusal = a .0; records = a .1 }
 
 abbrev pub bitOf : Bool → ℕ
 bitOf b = pick b 1 0

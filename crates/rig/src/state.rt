@@ -5,11 +5,13 @@ ghost use Rattle.controller.specs.Answers.{numberOf};
 ghost use Rattle.controller.specs.Calls.{perform, createCq, createSq, tailWrite, headWrite, start as startCall, finish as finishCall};
 ghost use Rattle.controller.specs.State.{newRefusal, newController};
 ghost use Rattle.store.specs.Held.{held, Sound, Holds, Reached};
-ghost use Rattle.rig.specs.Numbers.{startNumbers, finishNumbers, noSqNumbers, sqNumbers, noCqNumbers, cqNumbers, commandNumbers};
-ghost use Rattle.rig.specs.Numbers.{bitOf, remainderNumber, arbiterNumbers};
+ghost use Rattle.replay.specs.Replay.{replay};
+ghost use Rattle.rig.specs.Numbers.{startNumbers, finishNumbers, replayNumbers, noSqNumbers, sqNumbers, noCqNumbers, cqNumbers};
+ghost use Rattle.rig.specs.Numbers.{commandNumbers, bitOf, remainderNumber, arbiterNumbers};
 use arbiter::Remainder;
 use controller::Finished;
 use controller::Started;
+use replay::Replayed;
 use store::Controller;
 use store::WORDS;
 use store::arbiter_of;
@@ -34,6 +36,12 @@ pub struct StartNumbers {
 pub struct FinishNumbers {
     pub refusal: u64,
     pub slot: u64,
+}
+
+#[repr(C)]
+pub struct ReplayNumbers {
+    pub refusal: u64,
+    pub records: u64,
 }
 
 #[repr(C)]
@@ -214,6 +222,31 @@ pub extern "C" fn bellrafter_finish(
         Finished::Refused(number) => FinishNumbers {
             refusal: number,
             slot: 0,
+        },
+    }
+}
+
+// The calls of a plant's trace, with an answer record for each record.
+#[no_mangle]
+pub extern "C" fn bellrafter_replay(
+    state: &mut [u64; WORDS],
+    memory: &mut [u8],
+    trace: &[u8],
+    answers: &mut [u8],
+) -> ReplayNumbers
+    requires { ⌜ Reached (now state) ⌝ }
+    ensures { λ r. ⌜ (let e = replay (held (now (state .entry))) (now (memory .entry)) (now (trace .entry)) (now (answers .entry)) in
+        (r ≡ replayNumbers (e .answer)) × Holds (now (state .exit)) (e .controller)
+        × (now (memory .exit) ≡ e .memory) × (now (answers .exit) ≡ e .room)) ⌝ }
+{
+    match replay::replay(state, memory, trace, answers) {
+        Replayed::Records(records) => ReplayNumbers {
+            refusal: 0,
+            records: records,
+        },
+        Replayed::Refused(number) => ReplayNumbers {
+            refusal: number,
+            records: 0,
         },
     }
 }
