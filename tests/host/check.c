@@ -125,6 +125,20 @@ void require(bool met, const char *what)
     count(met);
 }
 
+void report_refusals(const struct refusals *refusals, const uint64_t times[REFUSALS])
+{
+    char what[80];
+
+    printf("%s", refusals->name);
+    for (size_t i = 0; i < refusals->count; i++) {
+        uint64_t number = refusals->number[i];
+        printf("%s%" PRIu64 ": %" PRIu64, i == 0 ? "  " : ", ", number, times[number]);
+        snprintf(what, sizeof what, "%s never answered %" PRIu64, refusals->name, number);
+        require(times[number] > 0, what);
+    }
+    printf("\n");
+}
+
 static struct {
     const char *what;
     uint64_t times;

@@ -52,6 +52,17 @@ void expect(const char *what, struct answer wanted, struct answer came);
 /* One expectation, of anything: prints the text if it is not met. */
 void require(bool met, const char *what);
 
+/* A call with the refusal numbers that it can give, each below REFUSALS. */
+enum { REFUSALS = 32 };
+struct refusals {
+    const char *name;
+    size_t count;
+    uint64_t number[10];
+};
+
+/* Prints how often it gave each of them, by number, one expectation each that it did. */
+void report_refusals(const struct refusals *refusals, const uint64_t times[REFUSALS]);
+
 /* Counts how often each thing named happened. */
 void note(const char *what, bool happened);
 

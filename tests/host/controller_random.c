@@ -2,7 +2,7 @@
  * Random calls of controllers, sound and damaged, each made on the library and on the plain controller (twin.h). Rings
  * are short, so that they wrap; calls are drawn by what the plain controller holds, so that they lead somewhere.
  */
-#include "twin.h"
+#include "draw.h"
 
 /* What must have happened at least once, and how often it did. */
 #define THINGS(X) \
@@ -65,25 +65,22 @@ static void happens(enum thing thing, bool yes)
 /* The calls with the refusal numbers that each can give, and how often it gave them. */
 enum { NEW, CREATE_CQ, CREATE_SQ, TAIL, HEAD, START, FINISH, CALLS };
 
-static const struct {
-    const char *name;
-    uint64_t numbers[10]; /* 0 first and last */
-} answers_of[CALLS] = {
-    {"controller_new", {0, 23}},
-    {"create_cq", {0, 1, 2, 3, 4, 5, 6}},
-    {"create_sq", {0, 1, 2, 8, 7, 3, 4, 5, 6}},
-    {"tail_write", {0, 1, 9, 11, 10}},
-    {"head_write", {0, 1, 9, 10}},
-    {"start", {0, 5, 12, 13}},
-    {"finish", {0, 5, 14, 15, 16, 17}},
+static const struct refusals refusals_of[CALLS] = {
+    {"controller_new", 2, {0, 23}},
+    {"create_cq", 7, {0, 1, 2, 3, 4, 5, 6}},
+    {"create_sq", 9, {0, 1, 2, 8, 7, 3, 4, 5, 6}},
+    {"tail_write", 5, {0, 1, 9, 11, 10}},
+    {"head_write", 4, {0, 1, 9, 10}},
+    {"start", 4, {0, 5, 12, 13}},
+    {"finish", 6, {0, 5, 14, 15, 16, 17}},
 };
 
-static uint64_t answered[CALLS][32];
+static uint64_t answered[CALLS][REFUSALS];
 static uint64_t answered_calls;
 
 static void answers(int call, uint64_t refusal)
 {
-    answered[call][refusal % 32]++;
+    answered[call][refusal % REFUSALS]++;
     answered_calls++;
 }
 
@@ -91,56 +88,13 @@ static void report(void)
 {
     char what[80];
 
-    for (int call = 0; call < CALLS; call++) {
-        const uint64_t *number = answers_of[call].numbers;
-        printf("%s", answers_of[call].name);
-        do {
-            printf("%s%" PRIu64 ": %" PRIu64, *number == 0 ? "  " : ", ", *number, answered[call][*number]);
-            snprintf(what, sizeof what, "%s never answered %" PRIu64, answers_of[call].name, *number);
-            require(answered[call][*number] > 0, what);
-        } while (*++number != 0);
-        printf("\n");
-    }
+    for (int call = 0; call < CALLS; call++)
+        report_refusals(&refusals_of[call], answered[call]);
     for (int thing = 0; thing < THING_COUNT; thing++) {
         printf("  %-30s %" PRIu64 "\n", thing_texts[thing], happened[thing]);
         snprintf(what, sizeof what, "never happened: %s", thing_texts[thing]);
         require(happened[thing] > 0, what);
     }
-}
-
-/* Drawing from what the plain controller holds; each answers `none` where there is nothing of the kind. */
-
-static uint64_t draw_sq(uint64_t none)
-{
-    uint64_t from = below(16);
-
-    for (uint64_t i = 0; i < 16; i++) {
-        if (plain.sqs[(from + i) % 16].exists)
-            return (from + i) % 16;
-    }
-    return none;
-}
-
-static uint64_t draw_cq(uint64_t none)
-{
-    uint64_t from = below(16);
-
-    for (uint64_t i = 0; i < 16; i++) {
-        if (plain.cqs[(from + i) % 16].exists)
-            return (from + i) % 16;
-    }
-    return none;
-}
-
-static uint64_t draw_tag(uint64_t none)
-{
-    uint64_t from = below(64);
-
-    for (uint64_t i = 0; i < 64; i++) {
-        if (plain.commands[(from + i) % 64].outstanding)
-            return (from + i) % 64;
-    }
-    return none;
 }
 
 /* The start of so many pages that no ring lies in. */
@@ -170,21 +124,6 @@ static uint64_t draw_base(uint64_t pages)
 static uint64_t draw_size(void)
 {
     return once_in(64) ? 1024 : once_in(32) ? 2 + below(1023) : 2 + below(7);
-}
-
-/* A part of memory: none, any, or one that ends with a ring or some bytes before or behind its end. */
-static size_t draw_lent(void)
-{
-    uint64_t sq = draw_sq(16), cq = draw_cq(16), end = below(MEMORY);
-
-    if (once_in(8))
-        return 0;
-    if (sq < 16 && once_in(3))
-        end = plain.sqs[sq].base + 64 * plain.sqs[sq].size;
-    else if (cq < 16 && once_in(2))
-        end = plain.cqs[cq].base + 16 * plain.cqs[cq].size;
-    end += once_in(2) ? 0 : below(3) - 1;
-    return end < MEMORY ? end : MEMORY;
 }
 
 /* The calls. `damage`: one in so many arguments is a wrong one. */
@@ -271,39 +210,6 @@ static void create_sq(uint64_t id, uint64_t damage)
     answers(CREATE_SQ, twin_create_sq(lent, id, size, base, cq, priority_class));
 }
 
-static uint64_t waiting_in(uint64_t size, uint64_t head, uint64_t tail)
-{
-    return (tail + size - head) % size;
-}
-
-/* An entry for slot `slot`: the fields of an SQ's pairs are alike as a rule, and differ in one bit else. */
-static struct submitted draw_entry(uint64_t id, const struct ref_sq *sq, uint64_t slot)
-{
-    const uint8_t *last = plain_memory + sq->base + 64 * ((slot + sq->size - 1) % sq->size);
-    struct submitted s = {.opc = below(256), .cid = below(once_in(8) ? 8 : 512), .nsid = 0x80000001 + id,
-                          .slba = UINT64_C(0x0123456789ABCDEF) * (id + 1), .nlb = 0x8000 + id, .others = any_number()};
-
-    if (last[1] % 4 == 1 && !once_in(4))
-        s.fuse = 2;
-    else
-        s.fuse = once_in(3) ? 1 : once_in(16) ? 2 : once_in(16) ? 3 : 0;
-    if (s.fuse != 0 && !once_in(24))
-        s.opc = s.fuse == 1 ? 5 : 1;
-    if (once_in(24))
-        s.psdt = 1 + below(3);
-    if (once_in(40))
-        s.nsid ^= (uint64_t)1 << below(32);
-    if (once_in(40))
-        s.slba ^= (uint64_t)1 << below(64);
-    if (once_in(40))
-        s.nlb ^= (uint64_t)1 << below(16);
-    if (s.fuse == 2 && once_in(24))
-        s.cid = last[2] + 256 * (uint64_t)last[3];
-    s.fuse += 4 * below(4);
-    s.psdt += 4 * (any_number() >> 3);
-    return s;
-}
-
 /* The host writes entries and moves the tail past them, or past some of them. */
 static void submit(void)
 {
@@ -312,19 +218,10 @@ static void submit(void)
     if (id == 16 || plain.sqs[id].marked)
         return;
     const struct ref_sq *sq = &plain.sqs[id];
-    uint64_t room = sq->size - 1 - waiting_in(sq->size, sq->head, sq->tail);
+    uint64_t room = room_in(sq);
     uint64_t count = below((room < 5 ? room : 5) + 1), moved = once_in(8) ? below(count + 1) : count;
 
-    for (uint64_t i = 0; i < count; i++) {
-        uint64_t slot = (sq->tail + i) % sq->size, at = sq->base + 64 * slot;
-        twin_submit(at, draw_entry(id, sq, slot));
-        if (once_in(8)) { /* reserved bits and bytes */
-            uint8_t reserved[8], flags = (uint8_t)(plain_memory[at + 1] | below(16) << 2);
-            fill_random(reserved, sizeof reserved);
-            twin_poke(at + 8, reserved, sizeof reserved);
-            twin_poke(at + 1, &flags, 1);
-        }
-    }
+    draw_entries(id, count);
     answers(TAIL, twin_tail(id, (sq->tail + moved) % sq->size));
 }
 
@@ -518,14 +415,19 @@ static void set_up(void)
     happens(SHARED_CQ, sharing > 0);
 }
 
+void draw_controller(uint64_t calls)
+{
+    twin_fill();
+    set_up();
+    steps(calls);
+}
+
 /* From a saved state the same calls give the same answers and leave the same state and memory; then others are made. */
 static void episode(void)
 {
     static struct saved before, after;
 
-    twin_fill();
-    set_up();
-    steps(200 + below(400));
+    draw_controller(200 + below(400));
     look_at_all();
     save_twin(&before);
 
