@@ -1,7 +1,8 @@
 /*
  * Bellrafter: a proved reference model of NVMe queues, the calls for C programs.
  *
- *     A controller   create its queues, ring its doorbells, let it start and finish commands, look at what it holds
+ *     A controller   create its queues, ring its doorbells, let it start and finish commands, replay a trace of such
+ *                    calls, look at what it holds
  *     Entries        write and read submission and completion queue entries
  *     Checks         count the completions that wait in a ring, check a doorbell value, walk the pages of a PRP
  *
@@ -15,7 +16,8 @@
  * (bellrafter_look_arbiter alone has none). Where several would apply, the first one in the order given at the call is
  * answered. On a refusal every other number of the answer is 0, and every byte of every buffer and every word of the
  * state is as it was. There are two exceptions: a tail value that is refused with BELLRAFTER_DOORBELL marks its
- * submission queue, and bellrafter_controller_new always writes the whole state.
+ * submission queue, and bellrafter_controller_new always writes the whole state. A replay that was done has a refusal
+ * number in each of its answer records too, which is about that record alone.
  *
  * Numbers. Every parameter takes any number of its type. There is no number for which a call is undefined, and
  * no sum wraps around: a number out of range is refused, or has the meaning given at the call.
@@ -40,12 +42,13 @@
  * Side effects. A call keeps no pointer, allocates nothing and touches nothing global. It is re-entrant, and
  * threads may call at the same time, as long as nothing that one of them writes is in use by another. A buffer is
  * read as ordinary memory and must not change during the call; the page walk reads a list twice and trusts what it has
- * checked. To look at a ring or a list that a device is writing, copy it first, with the barriers that your platform
- * asks for.
+ * checked, and a replay is one call, whatever it makes inside. To look at a ring or a list that a device is writing,
+ * copy it first, with the barriers that your platform asks for.
  *
  * Time. No call waits, fails in another way than by its refusal number, or runs without limit: the ring reader looks
  * at no more than 1,023 entries, the page walk at no more than 257, each at most twice; a start looks at no more than
- * two entries, 32 queues and 64 outstanding commands.
+ * two entries, 32 queues and 64 outstanding commands. A replay takes the time of the calls that its records name, one
+ * for each at most, and of reading 16 bytes and writing 16 for each.
  *
  * The archive is for x86-64 Linux, with size_t of 64 bits.
  *
@@ -82,8 +85,8 @@
  *     }
  *     bellrafter_head_write(state, 1, head);   // released
  *
- * In C++ too, write the word `struct` before the name of an answer: bellrafter_start and bellrafter_finish each name
- * a call and its answer.
+ * In C++ too, write the word `struct` before the name of an answer: bellrafter_start, bellrafter_finish and
+ * bellrafter_replay each name a call and its answer.
  */
 #ifndef BELLRAFTER_H
 #define BELLRAFTER_H
@@ -96,8 +99,8 @@ extern "C" {
 #endif
 
 #define BELLRAFTER_VERSION_MAJOR 1
-#define BELLRAFTER_VERSION_MINOR 1
-#define BELLRAFTER_VERSION "1.1"
+#define BELLRAFTER_VERSION_MINOR 2
+#define BELLRAFTER_VERSION "1.2"
 
 /* The limits. */
 #define BELLRAFTER_STATE_WORDS 558      /* words of a controller's state */
@@ -109,12 +112,13 @@ extern "C" {
 #define BELLRAFTER_CLASSES 4            /* priority classes: 0 urgent, 1 high, 2 medium, 3 low */
 #define BELLRAFTER_SUBMISSION_BYTES 64  /* bytes of a submission queue entry */
 #define BELLRAFTER_COMPLETION_BYTES 16  /* bytes of a completion queue entry */
+#define BELLRAFTER_RECORD_BYTES 16      /* bytes of a trace's record, and of its answer record */
 #define BELLRAFTER_STATUS_MOST 32767    /* the largest status */
 #define BELLRAFTER_LENGTH_MOST 1048576  /* the longest data of a page walk, in bytes */
 #define BELLRAFTER_PAGES_MOST 257       /* the most pages that such data touch */
 #define BELLRAFTER_NO_LIMIT UINT64_MAX  /* a remainder without limit: struct bellrafter_arbiter */
 
-/* The refusal numbers, with the calls that give them. */
+/* The refusal numbers, with the calls that give them. The answer records of replay have those of the calls it makes. */
 enum bellrafter_refusal {
     /* Done, no refusal: every call. */
     BELLRAFTER_DONE = 0,
@@ -163,12 +167,24 @@ enum bellrafter_refusal {
     BELLRAFTER_LENGTH = 20,
     /* A buffer is too short. submission_write, submission_read: the entry is under 64 bytes. completion_write,
        completion_read: the entry is under 16 bytes. page_walk: a result buffer has room for fewer pages than the data
-       touch. */
+       touch. replay: there is room for fewer answer records than the trace has records. */
     BELLRAFTER_BUFFER = 21,
     /* The page size number is above 4: page_walk. */
     BELLRAFTER_PAGE_SIZE = 22,
     /* The mechanism is neither 0 nor 1: controller_new. */
-    BELLRAFTER_MECHANISM = 23
+    BELLRAFTER_MECHANISM = 23,
+    /* The record names no call, or a spare byte of it is not zero: an answer record of replay. */
+    BELLRAFTER_RECORD = 30,
+    /* The trace ends before the record does: the last answer record of replay. */
+    BELLRAFTER_RECORD_SHORT = 31
+};
+
+/* The calls that a trace's record names: replay. */
+enum bellrafter_call {
+    BELLRAFTER_CALL_TAIL_WRITE = 1,
+    BELLRAFTER_CALL_HEAD_WRITE = 2,
+    BELLRAFTER_CALL_START = 3,
+    BELLRAFTER_CALL_FINISH = 4
 };
 
 /*
@@ -239,6 +255,10 @@ static inline const char *bellrafter_refusal_text(uint64_t refusal)
         return "the page size number is above 4";
     case BELLRAFTER_MECHANISM:
         return "the mechanism is neither 0 nor 1";
+    case BELLRAFTER_RECORD:
+        return "the record names no call, or a spare byte of it is not zero";
+    case BELLRAFTER_RECORD_SHORT:
+        return "the trace ends before its last record does";
     default:
         return "no refusal number";
     }
@@ -288,6 +308,12 @@ struct bellrafter_start {
 struct bellrafter_finish {
     uint64_t refusal;
     uint64_t slot; /* in the CQ */
+};
+
+/* What a replay wrote. */
+struct bellrafter_replay {
+    uint64_t refusal;
+    uint64_t records; /* answer records: as many as the trace has records, a last short one counted */
 };
 
 struct bellrafter_sq {
@@ -429,6 +455,53 @@ struct bellrafter_start bellrafter_start(uint64_t *state, const uint8_t *memory,
  */
 struct bellrafter_finish bellrafter_finish(uint64_t *state, uint8_t *memory, size_t memory_bytes, uint64_t tag,
                                            uint64_t status, uint32_t result);
+
+/*
+ * Replays a trace: makes the calls that its records name, one after another, on the controller and the memory as they
+ * stand, and writes an answer record for each record. The queues are created before.
+ *
+ * A trace is records of 16 bytes, from its first byte on; the last one may be short, which is refused in its answer
+ * record. A record:
+ *
+ *                      tail write     head write     start    finish
+ *     byte   0         1              2              3        4             enum bellrafter_call
+ *     byte   1         the SQ's id    the CQ's id    0        the tag
+ *     bytes  2 to  3   the value      the value      0        the status
+ *     bytes  4 to 15   0              0              0        0
+ *
+ * The bytes shown as 0 are spare. The others may be any: the call is bellrafter_tail_write, bellrafter_head_write,
+ * bellrafter_start or bellrafter_finish of these numbers, a finish with result 0, and does what that does. An answer
+ * record, also of 16 bytes, the first one for the first record:
+ *
+ *     byte   0         byte 0 of the record, whatever it is
+ *     byte   1         the refusal number, 0 if the call was done
+ *     bytes  2 to  3   the value that a tail write or head write wrote, the tag of the first command that a start took,
+ *                      the slot in the CQ that a finish posted to; 0 beside a refusal
+ *     bytes  4 to 15   0
+ *
+ * The refusal number of an answer record is, in order: BELLRAFTER_RECORD_SHORT if the trace ends before the record
+ * does, whatever is in it; BELLRAFTER_RECORD if byte 0 is none of the four or a spare byte is not 0; that of the call.
+ * With the first two no call is made, and the record changes nothing. After any other refusal than the first the
+ * replay goes on with the next record.
+ *
+ * An example, with four bytes of each record, behind which twelve zeros stand. SQ 1 and CQ 1 are new, of 4 entries, and
+ * an ordinary command lies in slot 0 of SQ 1:
+ *
+ *     record         answer record
+ *     01 01 01 00    01 00 01 00      tail write, SQ 1, value 1: done, 1 written
+ *     03 00 00 00    03 00 00 00      start: done, tag 0
+ *     03 00 00 00    03 0C 00 00      start: refused with BELLRAFTER_NO_CANDIDATE
+ *
+ * `answers` is the room for the answer records, 16 bytes for each record, a last short one too; the bytes past them are
+ * left as they are. `memory` and `answers` must overlap neither each other nor `trace` nor the state, and nobody else
+ * writes any of them during the replay. A host that has entries to write between two records cuts the trace there: two
+ * replays, one of each part, do what one of the whole does.
+ *
+ * Refusal: BELLRAFTER_BUFFER if `answers_bytes` is under 16 for each record. It is tested first, so no call is made
+ * then. An empty trace has no record and needs no room.
+ */
+struct bellrafter_replay bellrafter_replay(uint64_t *state, uint8_t *memory, size_t memory_bytes, const uint8_t *trace,
+                                           size_t trace_bytes, uint8_t *answers, size_t answers_bytes);
 
 /* A submission queue as it stands. In order: BELLRAFTER_QUEUE_ID; BELLRAFTER_NO_QUEUE. */
 struct bellrafter_sq bellrafter_look_sq(const uint64_t *state, uint64_t id);

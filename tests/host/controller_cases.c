@@ -22,6 +22,9 @@ HOLDS(start_bytes, sizeof(struct bellrafter_start) == 56);
 FIELD(bellrafter_finish, refusal, 0, 8);
 FIELD(bellrafter_finish, slot, 8, 8);
 HOLDS(finish_bytes, sizeof(struct bellrafter_finish) == 16);
+FIELD(bellrafter_replay, refusal, 0, 8);
+FIELD(bellrafter_replay, records, 8, 8);
+HOLDS(replay_bytes, sizeof(struct bellrafter_replay) == 16);
 FIELD(bellrafter_sq, refusal, 0, 8);
 FIELD(bellrafter_sq, base, 8, 8);
 FIELD(bellrafter_sq, size, 16, 8);
@@ -860,12 +863,14 @@ static void text_cases(void)
 
     snprintf(version, sizeof version, "%d.%d", BELLRAFTER_VERSION_MAJOR, BELLRAFTER_VERSION_MINOR);
     require(strcmp(version, BELLRAFTER_VERSION) == 0, "the version is that of its two numbers");
-    for (uint64_t a = 0; a <= 24; a++) {
+    for (uint64_t a = 0; a <= 32; a++) {
+        bool number = a <= BELLRAFTER_MECHANISM || a == BELLRAFTER_RECORD || a == BELLRAFTER_RECORD_SHORT;
+        bool none = strcmp(bellrafter_refusal_text(a), bellrafter_refusal_text(TOP)) == 0;
         require(strlen(bellrafter_refusal_text(a)) > 0, "a refusal has a text");
-        for (uint64_t b = 0; b < a; b++)
+        require(number != none, "a text for refusal numbers, another one for all others");
+        for (uint64_t b = 0; number && b < a; b++)
             require(strcmp(bellrafter_refusal_text(a), bellrafter_refusal_text(b)) != 0, "texts of refusals differ");
     }
-    require(strcmp(bellrafter_refusal_text(24), bellrafter_refusal_text(TOP)) == 0, "no refusal number");
     require(strcmp(bellrafter_refusal_text(0), "done") == 0, "done");
     require(strcmp(bellrafter_status_text(0x02), "Invalid Field in Command") == 0, "02h");
     require(strcmp(bellrafter_status_text(0x03), "Command ID Conflict") == 0, "03h");

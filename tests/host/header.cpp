@@ -13,6 +13,10 @@ int use_the_header(uint64_t *state, uint8_t *memory, size_t memory_bytes)
     refusals += bellrafter_tail_write(state, 1, 1);
     struct bellrafter_start s = bellrafter_start(state, memory, memory_bytes);
     struct bellrafter_finish f = bellrafter_finish(state, memory, memory_bytes, s.first, 0, 7);
+    uint8_t trace[BELLRAFTER_RECORD_BYTES] = {BELLRAFTER_CALL_START}, answers[BELLRAFTER_RECORD_BYTES];
+    struct bellrafter_replay r =
+        bellrafter_replay(state, memory, memory_bytes, trace, sizeof trace, answers, sizeof answers);
+    refusals += r.refusal + (r.records > 0 ? answers[1] : 0U);
     struct bellrafter_waiting w = bellrafter_ring_read(memory, memory_bytes, 4, 0, 1);
     struct bellrafter_completion c = bellrafter_completion_read(memory, BELLRAFTER_COMPLETION_BYTES);
     struct bellrafter_submission e = bellrafter_submission_read(memory, memory_bytes);
