@@ -40,6 +40,11 @@ struct answer of_finish(struct bellrafter_finish f)
     return (struct answer){2, {f.refusal, f.slot}};
 }
 
+struct answer of_replay(struct bellrafter_replay r)
+{
+    return (struct answer){2, {r.refusal, r.records}};
+}
+
 struct answer of_sq(struct bellrafter_sq q)
 {
     return (struct answer){8, {q.refusal, q.base, q.size, q.head, q.tail, q.marked, q.cq, q.priority_class}};

@@ -29,6 +29,7 @@ struct answer of_waiting(struct bellrafter_waiting waiting);
 struct answer of_pages(struct bellrafter_pages pages);
 struct answer of_start(struct bellrafter_start start);
 struct answer of_finish(struct bellrafter_finish finish);
+struct answer of_replay(struct bellrafter_replay replay);
 struct answer of_sq(struct bellrafter_sq sq);
 struct answer of_cq(struct bellrafter_cq cq);
 struct answer of_command(struct bellrafter_command command);
@@ -121,7 +122,9 @@ void read_only(struct guarded guarded, bool yes);
 /* The parts of the test. */
 void fixed_cases(void);
 void controller_cases(void);
+void replay_cases(void);
 void random_calls(uint64_t calls);
 void random_controllers(uint64_t calls);
+void random_replays(uint64_t replays);
 
 #endif

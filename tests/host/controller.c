@@ -403,6 +403,85 @@ struct bellrafter_finish ref_finish(struct ref_controller *c, uint8_t *memory, s
     return (struct bellrafter_finish){BELLRAFTER_DONE, slot};
 }
 
+/* Replaying. */
+
+/* "Numbers 30 for an unknown call or a nonzero spare byte, and 31, before 30, for a last short record" */
+uint64_t ref_record_refusal(const uint8_t *record, size_t bytes)
+{
+    if (bytes < 16)
+        return BELLRAFTER_RECORD_SHORT;
+    if (record[0] < 1 || record[0] > 4)
+        return BELLRAFTER_RECORD;
+    int first_spare = record[0] == BELLRAFTER_CALL_START ? 1 : 4;
+    for (int i = first_spare; i < 16; i++) {
+        if (record[i] != 0)
+            return BELLRAFTER_RECORD;
+    }
+    return BELLRAFTER_DONE;
+}
+
+uint64_t ref_record_value(const uint8_t *record)
+{
+    return record[2] + 256 * (uint64_t)record[3];
+}
+
+/*
+ * "byte 0 as sent, refusal number, two result bytes (value written, first tag, or slot posted; 0 if refused), twelve
+ * zeros"
+ */
+void ref_answer_record(uint8_t *answer, uint8_t call, uint64_t refusal, uint64_t result)
+{
+    uint64_t shown = refusal == BELLRAFTER_DONE ? result : 0;
+
+    memset(answer, 0, 16);
+    answer[0] = call;
+    answer[1] = (uint8_t)refusal;
+    answer[2] = (uint8_t)(shown % 256);
+    answer[3] = (uint8_t)(shown / 256);
+}
+
+/* The call that a good record names: its refusal number, and its result where it was done. */
+static uint64_t call_of_record(struct ref_controller *c, uint8_t *memory, size_t memory_bytes, const uint8_t *record,
+                               uint64_t *result)
+{
+    uint64_t value = ref_record_value(record);
+
+    if (record[0] == BELLRAFTER_CALL_TAIL_WRITE) {
+        *result = value;
+        return ref_tail_write(c, record[1], value);
+    }
+    if (record[0] == BELLRAFTER_CALL_HEAD_WRITE) {
+        *result = value;
+        return ref_head_write(c, record[1], value);
+    }
+    if (record[0] == BELLRAFTER_CALL_START) {
+        struct bellrafter_start taken = ref_start(c, memory, memory_bytes);
+        *result = taken.first;
+        return taken.refusal;
+    }
+    struct bellrafter_finish posted = ref_finish(c, memory, memory_bytes, record[1], value, 0);
+    *result = posted.slot;
+    return posted.refusal;
+}
+
+/* "The answer room is tested first (21), one record for each begun record; bytes past them stay." */
+struct bellrafter_replay ref_replay(struct ref_controller *c, uint8_t *memory, size_t memory_bytes,
+                                    const uint8_t *trace, size_t trace_bytes, uint8_t *answers, size_t answers_bytes)
+{
+    size_t begun = trace_bytes / 16 + (trace_bytes % 16 > 0);
+
+    if (answers_bytes / 16 < begun)
+        return (struct bellrafter_replay){BELLRAFTER_BUFFER, 0};
+    for (size_t i = 0; i < begun; i++) {
+        const uint8_t *record = trace + 16 * i;
+        uint64_t result = 0, refusal = ref_record_refusal(record, trace_bytes - 16 * i);
+        if (refusal == BELLRAFTER_DONE)
+            refusal = call_of_record(c, memory, memory_bytes, record, &result);
+        ref_answer_record(answers + 16 * i, record[0], refusal, result);
+    }
+    return (struct bellrafter_replay){BELLRAFTER_DONE, begun};
+}
+
 /* Looking. */
 
 struct bellrafter_sq ref_look_sq(const struct ref_controller *c, uint64_t id)

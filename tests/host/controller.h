@@ -57,9 +57,19 @@ uint64_t ref_head_write(struct ref_controller *c, uint64_t id, uint64_t value);
 struct bellrafter_start ref_start(struct ref_controller *c, const uint8_t *memory, size_t memory_bytes);
 struct bellrafter_finish ref_finish(struct ref_controller *c, uint8_t *memory, size_t memory_bytes, uint64_t tag,
                                     uint64_t status, uint32_t result);
+struct bellrafter_replay ref_replay(struct ref_controller *c, uint8_t *memory, size_t memory_bytes,
+                                    const uint8_t *trace, size_t trace_bytes, uint8_t *answers, size_t answers_bytes);
 struct bellrafter_sq ref_look_sq(const struct ref_controller *c, uint64_t id);
 struct bellrafter_cq ref_look_cq(const struct ref_controller *c, uint64_t id);
 struct bellrafter_command ref_look_command(const struct ref_controller *c, uint64_t tag);
 struct bellrafter_arbiter ref_look_arbiter(const struct ref_controller *c);
+
+/*
+ * The parts of a replay: what is wrong with a record by itself, 31 or 30, where the trace has `bytes` bytes from it on;
+ * the value in it; and the answer record to a call.
+ */
+uint64_t ref_record_refusal(const uint8_t *record, size_t bytes);
+uint64_t ref_record_value(const uint8_t *record);
+void ref_answer_record(uint8_t *answer, uint8_t call, uint64_t refusal, uint64_t result);
 
 #endif

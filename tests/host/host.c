@@ -2,7 +2,8 @@
  * Calls every function of bellrafter.h: first the fixed cases, each with the answer that it must have, then random
  * calls, each compared with the reference.
  *
- * host [SEED [CALLS]]   CALLS random calls of each function that needs no controller, 20 times as many of controllers
+ * host [SEED [CALLS]]   CALLS random calls of each function that needs no controller, 20 times as many of controllers,
+ *                       and one replay for each 20
  */
 #include <stdlib.h>
 
@@ -18,10 +19,12 @@ int main(int argc, char **argv)
     open_twin();
     fixed_cases();
     controller_cases();
+    replay_cases();
     printf("fixed cases: %" PRIu64 " passed, %" PRIu64 " calls of the controller\n", passed, calls_made);
     seed_random(seed);
     random_calls(calls);
     random_controllers(20 * calls);
+    random_replays(calls / 20);
     printf("%" PRIu64 " passed, %" PRIu64 " failed\n", passed, failed);
     return failed > 0;
 }

@@ -6,6 +6,7 @@ struct ref_controller plain;
 uint8_t plain_memory[MEMORY];
 uint64_t calls_made;
 uint64_t answers_digest;
+const uint8_t *answer_room;
 
 enum {
     STATE_BYTES = 8 * BELLRAFTER_STATE_WORDS,
@@ -16,7 +17,7 @@ enum {
     UNTOUCHED = 0xA5
 };
 
-static struct guarded state_area, memory_area, short_area;
+static struct guarded state_area, memory_area, short_area, trace_area, answer_area;
 static uint64_t *state;
 static uint64_t before[BELLRAFTER_STATE_WORDS];
 static bool guarding;
@@ -33,6 +34,8 @@ void open_twin(void)
     state_area = guarded_bytes(STATE_BYTES + 64);
     memory_area = guarded_bytes(MEMORY);
     short_area = guarded_bytes(MEMORY);
+    trace_area = guarded_bytes(ROOM);
+    answer_area = guarded_bytes(GUARD + ROOM);
     place_state(0);
 }
 
@@ -304,6 +307,36 @@ struct bellrafter_finish twin_finish(size_t lent, uint64_t tag, uint64_t status,
     return came;
 }
 
+struct bellrafter_replay twin_replay(const char *what, size_t lent, const uint8_t *trace, size_t trace_bytes,
+                                     size_t room)
+{
+    static uint8_t plain_answers[GUARD + ROOM];
+    struct call call = {"replay", 3, {lent, trace_bytes, room}};
+    uint8_t *memory = lend(lent), *sent = last_bytes(trace_area, trace_bytes), *answers = last_bytes(answer_area, room);
+    struct view view = {"answers", plain_answers, answers - GUARD, GUARD + room};
+
+    memcpy(sent, trace, trace_bytes);
+    memset(answers - GUARD, FRESH_ROOM, GUARD + room);
+    memset(plain_answers, FRESH_ROOM, sizeof plain_answers);
+    remember();
+    if (guarding)
+        read_only(trace_area, true);
+    struct bellrafter_replay came = bellrafter_replay(state, memory, lent, trace_bytes > 0 ? sent : NULL, trace_bytes,
+                                                      room > 0 ? answers : NULL, room);
+    if (guarding)
+        read_only(trace_area, false);
+    take_back(lent);
+    struct bellrafter_replay wanted =
+        ref_replay(&plain, plain_memory, lent, trace, trace_bytes, plain_answers + GUARD, room);
+    settle(&call, of_replay(wanted), of_replay(came), came.refusal == 0);
+    compare(what, of_replay(wanted), of_replay(came), &view, 1);
+    require(memcmp(sent, trace, trace_bytes) == 0, "the trace has changed");
+    compare_memories();
+    look_at_all();
+    answer_room = answers;
+    return came;
+}
+
 /* Memory. */
 
 void twin_submit(uint64_t at, struct submitted s)
@@ -364,7 +397,6 @@ void go_back(const struct saved *saved)
 
 void compare_saved(const struct saved *saved)
 {
-    require(memcmp(state, saved->state, STATE_BYTES) == 0, "the same calls from a saved state leave another state");
-    require(memcmp(memory_area.bytes, saved->memory, MEMORY) == 0,
-            "the same calls from a saved state leave another memory");
+    require(memcmp(state, saved->state, STATE_BYTES) == 0, "the state is not the saved one");
+    require(memcmp(memory_area.bytes, saved->memory, MEMORY) == 0, "the memory is not the saved one");
 }

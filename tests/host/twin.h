@@ -10,8 +10,11 @@
 #include "check.h"
 #include "controller.h"
 
-/* The bytes of memory. A call may be lent fewer: the library then gets a copy that ends before such a page. */
-enum { MEMORY_PAGES = 40, MEMORY = MEMORY_PAGES * 4096 };
+/*
+ * The bytes of memory. A call may be lent fewer: the library then gets a copy that ends before such a page. A trace has
+ * no more than ROOM bytes, nor has the room for its answer records.
+ */
+enum { MEMORY_PAGES = 40, MEMORY = MEMORY_PAGES * 4096, ROOM = 5 * 4096 };
 
 /* The plain controller and its memory: to draw calls from. The memory is written by the functions here alone. */
 extern struct ref_controller plain;
@@ -34,6 +37,16 @@ uint64_t twin_tail(uint64_t id, uint64_t value);
 uint64_t twin_head(uint64_t id, uint64_t value);
 struct bellrafter_start twin_start(size_t lent);
 struct bellrafter_finish twin_finish(size_t lent, uint64_t tag, uint64_t status, uint32_t result);
+
+/*
+ * A replay with so many bytes of room for answer records, each of them FRESH_ROOM before. Further expectations: that
+ * the two rooms are equal, with the bytes before them, all of both memories, and all look_ calls; `what` is shown where
+ * the rooms differ. Afterwards the library's room is at `answer_room`.
+ */
+enum { FRESH_ROOM = 0x5A };
+extern const uint8_t *answer_room;
+struct bellrafter_replay twin_replay(const char *what, size_t lent, const uint8_t *trace, size_t trace_bytes,
+                                     size_t room);
 
 /* All look_ calls, for every id and tag and some beyond, one expectation each. */
 void look_at_all(void);
