@@ -2,7 +2,7 @@
  * Times the controller's calls of bellrafter.h against a plain C controller, in one process: the same loop around both
  * (loops.h), over the same memory, in alternating runs that all begin with a fresh controller. No call is inlined.
  * Before a row is timed its batches are made on both sides: answers, memory and the queues' places must be equal, and
- * no call may be refused. The same is asked of what the timed runs answer.
+ * no call may be refused. The same is asked of what the timed runs answer, but for the answer records of a replay.
  *
  * The loop by itself is taken off both sides, unless a row says otherwise.
  */
@@ -24,7 +24,7 @@ struct row {
     struct plan plan;
 };
 
-uint8_t memory[MEMORY];
+uint8_t memory[MEMORY], trace[TRACE], answers[TRACE];
 
 static const struct row controller_rows[] = {
     {"doorbell write (tail)", "doorbell write (tail), with the loop around it", {TAILS, 0, 16, 0}},
@@ -37,6 +37,8 @@ static const struct row controller_rows[] = {
     {"start and finish, mechanism 1, 16 busy queues", NULL, {COMMANDS, 1, 16, 0}},
     {"start and finish, mechanism 1, fused pairs (a start and two finishes)", NULL, {PAIRS, 1, 1, 0}},
     {"start and finish, mechanism 1, 63 outstanding commands", NULL, {COMMANDS, 1, 1, 63}},
+    {"replay, for each record, mechanism 0, 1 busy queue of 16", NULL, {REPLAYS, 0, 1, 0}},
+    {"replay, for each record, mechanism 0, 16 busy queues", NULL, {REPLAYS, 0, 16, 0}},
 };
 
 static const struct row growth_rows[] = {
@@ -52,7 +54,7 @@ static const uint64_t compared[] = {0, 1, 2, 3, 70};
 static struct left {
     struct heard heard;
     struct seen seen;
-    uint8_t memory[MEMORY];
+    uint8_t memory[MEMORY], answers[TRACE];
 } left[2];
 
 static void failed(const struct row *row, const char *why, uint64_t batches)
@@ -70,6 +72,8 @@ static double calls_of(const struct plan *plan)
         return QUEUES * (LONG - 1);
     case PAIRS:
         return SUBMITTED / 2 * (double)plan->busy;
+    case REPLAYS:
+        return TRACE / RECORD;
     default:
         return SUBMITTED * (double)plan->busy;
     }
@@ -97,9 +101,36 @@ static void fill(const struct plan *plan)
     }
 }
 
+/* Each round submits the next slot of a queue and releases what is posted for it; tag 0 is free again each time. */
+static void fill_trace(const struct plan *plan)
+{
+    memset(trace, 0, sizeof trace);
+    memset(answers, 0xFF, sizeof answers);
+    for (uint64_t round = 0; round < TRACE / ROUND; round++) {
+        uint8_t *r = trace + ROUND * round;
+        uint8_t id = (uint8_t)((plan->busy == 1) + round % plan->busy);
+        uint8_t next = (uint8_t)((round / plan->busy + 1) % SHORT);
+        memcpy(r, (uint8_t[]){BELLRAFTER_CALL_TAIL_WRITE, id, next}, 3);
+        r[RECORD] = BELLRAFTER_CALL_START;
+        r[2 * RECORD] = BELLRAFTER_CALL_FINISH;
+        memcpy(r + 3 * RECORD, (uint8_t[]){BELLRAFTER_CALL_HEAD_WRITE, id, next}, 3);
+    }
+}
+
+/* Whether an answer record has a refusal; those that no replay wrote do. */
+static bool record_refused(const uint8_t *records)
+{
+    for (size_t at = 0; at < TRACE; at += RECORD) {
+        if (records[at + 1] != 0)
+            return true;
+    }
+    return false;
+}
+
 static struct heard prepare(const struct row *row, const struct side *side)
 {
     fill(&row->plan);
+    fill_trace(&row->plan);
     return side->prepare(&row->plan);
 }
 
@@ -123,11 +154,16 @@ static void compare(const struct row *row)
                 left[k].heard = sides[k]->run(&row->plan, compared[i]);
             sides[k]->look(&left[k].seen);
             memcpy(left[k].memory, memory, sizeof memory);
+            memcpy(left[k].answers, answers, sizeof answers);
         }
         if (left[0].heard.refused != 0 || left[1].heard.refused != 0)
             failed(row, "a call is refused", compared[i]);
         if (left[0].heard.digest != left[1].heard.digest)
             failed(row, "the answers differ", compared[i]);
+        if (memcmp(left[0].answers, left[1].answers, sizeof answers) != 0)
+            failed(row, "the answer records differ", compared[i]);
+        if (row->plan.kind == REPLAYS && compared[i] > 0 && record_refused(answers))
+            failed(row, "a record is refused", compared[i]);
         if (memcmp(left[0].memory, left[1].memory, sizeof memory) != 0)
             failed(row, "the memory differs", compared[i]);
         if (memcmp(&left[0].seen, &left[1].seen, sizeof left[0].seen) != 0)

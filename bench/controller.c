@@ -11,6 +11,15 @@ enum {
     WRITE = 0x01,
 };
 
+/* A record of a trace, and the calls that it may name. */
+enum {
+    RECORD = 16,
+    TAIL_WRITE = 1,
+    HEAD_WRITE = 2,
+    START = 3,
+    FINISH = 4,
+};
+
 static uint16_t load16(const uint8_t *p)
 {
     uint16_t x;
@@ -368,5 +377,57 @@ unsigned finish(struct controller *c, uint8_t *memory, size_t length, uint64_t t
     if (next == 0)
         q->phase ^= 1;
     c->free |= 1ull << tag;
+    return 0;
+}
+
+/* The call of a record, by its first eight bytes. */
+static unsigned call_record(struct controller *c, uint8_t *memory, size_t length, uint64_t record, uint16_t *result)
+{
+    uint8_t id = record >> 8;
+    uint16_t value = record >> 16;
+    struct started s = {0};
+    unsigned refusal;
+    switch (record & 0xff) {
+    case TAIL_WRITE:
+        *result = value;
+        return tail_write(c, id, value);
+    case HEAD_WRITE:
+        *result = value;
+        return head_write(c, id, value);
+    case START:
+        if (record != START)
+            return 30;
+        refusal = start(c, memory, length, &s);
+        *result = s.first;
+        return refusal;
+    case FINISH:
+        return finish(c, memory, length, id, value, 0, result);
+    default:
+        return 30;
+    }
+}
+
+static void store_answer(uint8_t *p, uint8_t call, unsigned refusal, uint16_t result)
+{
+    uint64_t words[2] = {call | (uint64_t)refusal << 8 | (refusal ? 0 : (uint64_t)result << 16), 0};
+    memcpy(p, words, sizeof words);
+}
+
+unsigned replay(struct controller *c, uint8_t *memory, size_t length, const uint8_t *trace, size_t trace_bytes, uint8_t *answers,
+                size_t room, size_t *records)
+{
+    size_t whole = trace_bytes / RECORD;
+    size_t begun = whole + (trace_bytes % RECORD != 0);
+    if (room / RECORD < begun)
+        return 21;
+    for (size_t i = 0; i < whole; i++) {
+        uint64_t first = load64(trace + RECORD * i), spare = load64(trace + RECORD * i + 8);
+        uint16_t result = 0;
+        unsigned refusal = spare || first >> 32 ? 30 : call_record(c, memory, length, first, &result);
+        store_answer(answers + RECORD * i, first, refusal, result);
+    }
+    if (begun > whole)
+        store_answer(answers + RECORD * whole, trace[RECORD * whole], 31, 0);
+    *records = begun;
     return 0;
 }

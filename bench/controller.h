@@ -73,5 +73,7 @@ unsigned tail_write(struct controller *c, uint64_t id, uint64_t value);
 unsigned head_write(struct controller *c, uint64_t id, uint64_t value);
 unsigned start(struct controller *c, const uint8_t *memory, size_t length, struct started *out);
 unsigned finish(struct controller *c, uint8_t *memory, size_t length, uint64_t tag, uint64_t status, uint32_t result, uint16_t *slot);
+unsigned replay(struct controller *c, uint8_t *memory, size_t length, const uint8_t *trace, size_t trace_bytes, uint8_t *answers,
+                size_t room, size_t *records);
 
 #endif

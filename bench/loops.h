@@ -3,7 +3,7 @@
  * unit of its own, so that both have the same loop around calls that are not inlined. Before, the side has defined its
  * calls as static functions, which add as little as they can:
  *
- *     call_new, call_create_cq, call_create_sq, call_tail, call_head, call_start, call_finish, call_look
+ *     call_new, call_create_cq, call_create_sq, call_tail, call_head, call_start, call_finish, call_replay, call_look
  *     call_save, call_restore      the controller's state is kept, and put back
  */
 
@@ -171,6 +171,14 @@ static void commands(const struct plan *plan)
     release(plan->busy, SUBMITTED);
 }
 
+static void replayed(void)
+{
+    struct bellrafter_replay r = call_replay();
+
+    hear(r.refusal);
+    at.digest = mixed(at.digest, r.records);
+}
+
 static struct heard run(const struct plan *plan, uint64_t batches)
 {
     for (uint64_t i = 0; i < batches; i++) {
@@ -178,6 +186,8 @@ static struct heard run(const struct plan *plan, uint64_t batches)
             tails();
         else if (plan->kind == HEADS)
             heads();
+        else if (plan->kind == REPLAYS)
+            replayed();
         else
             commands(plan);
     }

@@ -47,6 +47,11 @@ static inline struct bellrafter_finish call_finish(uint64_t tag, uint64_t status
     return (struct bellrafter_finish){nothing(tag, status), nothing(result, 0)};
 }
 
+static inline struct bellrafter_replay call_replay(void)
+{
+    return (struct bellrafter_replay){nothing(0, 0), nothing(0, 0)};
+}
+
 static inline void call_look(uint64_t id, struct place *place)
 {
     *place = (struct place){nothing(id, 0), 0, 0, 0, 0};

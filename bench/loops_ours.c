@@ -42,6 +42,11 @@ static inline struct bellrafter_finish call_finish(uint64_t tag, uint64_t status
     return bellrafter_finish(state, memory, sizeof memory, tag, status, result);
 }
 
+static inline struct bellrafter_replay call_replay(void)
+{
+    return bellrafter_replay(state, memory, sizeof memory, trace, sizeof trace, answers, sizeof answers);
+}
+
 static inline void call_look(uint64_t id, struct place *place)
 {
     struct bellrafter_sq sq = bellrafter_look_sq(state, id);

@@ -47,6 +47,15 @@ static inline struct bellrafter_finish call_finish(uint64_t tag, uint64_t status
     return (struct bellrafter_finish){refusal, slot};
 }
 
+static inline struct bellrafter_replay call_replay(void)
+{
+    size_t records = 0;
+    unsigned refusal =
+        replay(&controller, memory, sizeof memory, trace, sizeof trace, answers, sizeof answers, &records);
+
+    return (struct bellrafter_replay){refusal, records};
+}
+
 static inline void call_look(uint64_t id, struct place *place)
 {
     place->sq_head = controller.sqs[id].ring.head;

@@ -7,7 +7,8 @@
 /*
  * SHORT and LONG: entries of a ring, where commands and where doorbell writes are timed. SUBMITTED: the commands that a
  * batch submits to each busy queue. STAGGER: how far a queue stands behind the next one before doorbells are written.
- * WORD: a burst of 4, and the weights 2, 4 and 8. MEMORY: room for 16 long rings of either kind.
+ * WORD: a burst of 4, and the weights 2, 4 and 8. MEMORY: room for 16 long rings of either kind. TRACE: the bytes of a
+ * trace; a round of its records is a tail write, a start, a finish and a head write.
  */
 enum {
     QUEUES = 16,
@@ -16,16 +17,20 @@ enum {
     SUBMITTED = 62,
     STAGGER = 64,
     WORD = 0x07030102,
-    MEMORY = QUEUES * LONG * (64 + 16)
+    MEMORY = QUEUES * LONG * (64 + 16),
+    RECORD = 16,
+    ROUND = 4 * RECORD,
+    TRACE = 1024 * ROUND
 };
 
-enum kind { TAILS, HEADS, COMMANDS, PAIRS };
+enum kind { TAILS, HEADS, COMMANDS, PAIRS, REPLAYS };
 
 /*
  * What is timed. TAILS and HEADS: a batch moves the tail of each queue, or the head of each completion queue, on by one
  * until it can go no further, all queues in turn; then the controller is put back to where it was. COMMANDS and PAIRS:
  * a batch submits to the busy queues, starts and finishes all of it and releases the completions, while `outstanding`
- * other commands stay outstanding: each finish takes the oldest one.
+ * other commands stay outstanding: each finish takes the oldest one. REPLAYS: a batch is one replay of a trace whose
+ * rounds go over the busy queues in turn, so often that each queue ends at the slot where it began.
  */
 struct plan {
     enum kind kind;
@@ -63,7 +68,7 @@ struct side {
 /* The exports, plain C, and the loop that calls nothing. */
 extern const struct side side_ours, side_plain, side_none;
 
-extern uint8_t memory[MEMORY];
+extern uint8_t memory[MEMORY], trace[TRACE], answers[TRACE];
 
 static inline uint64_t ring_size(const struct plan *plan)
 {
