@@ -2,6 +2,7 @@
 ghost use Prim.Native.Nat.{_≤_};
 ghost use lib.ListN.{length};
 use crate::command::Command;
+use crate::command::ends;
 use crate::command::largest;
 use crate::command::takes;
 use crate::line::next_word;
@@ -41,7 +42,7 @@ pub fn read(line: &[u8], at: usize, command: Command) -> Arguments
         let w = next_word(line, from);
         let start = w.start;
         let end = w.end;
-        if start == end {
+        if start == end || ends(command, count) {
             return Arguments {
                 good: takes(command, count),
                 count: count,

@@ -13,6 +13,7 @@ pub enum Command {
     Head,
     Start,
     Finish,
+    Replay,
     WriteSqe,
     ReadSqe,
     WriteCqe,
@@ -72,6 +73,9 @@ fn of_five_or_six(word: &[u8]) -> Command {
     }
     if is(word, b"finish") {
         return Command::Finish;
+    }
+    if is(word, b"replay") {
+        return Command::Replay;
     }
     if is(word, b"poke64") {
         return Command::Poke64;
@@ -151,7 +155,8 @@ pub fn named(word: &[u8]) -> Command {
 pub fn takes(command: Command, count: usize) -> bool {
     match command {
         Command::Start => count == 0,
-        Command::Lend | Command::ShowSq | Command::ShowCq | Command::ShowTag => count == 1,
+        Command::Lend | Command::Replay | Command::ShowSq | Command::ShowCq | Command::ShowTag =>
+            count == 1,
         Command::Controller
         | Command::Peek
         | Command::Tail
@@ -166,6 +171,14 @@ pub fn takes(command: Command, count: usize) -> bool {
         Command::WriteSqe => count == 16,
         Command::Poke | Command::Poke64 => 2 <= count,
         Command::Unknown => false,
+    }
+}
+
+// Whether the words after so many numbers of a command are no numbers, but its own to read.
+pub fn ends(command: Command, count: usize) -> bool {
+    match command {
+        Command::Replay => count == 1,
+        _ => false,
     }
 }
 
