@@ -4,6 +4,7 @@ ghost use lib.ListN.{length};
 ghost use Rattle.shell.specs.Ready.{Ready};
 use crate::queue::call;
 use crate::queue::show;
+use replayer::replay;
 use stateless::codec::check;
 use stateless::codec::in_memory;
 use stateless::poke::poke;
@@ -95,6 +96,25 @@ impl Shell {
             reply: reply,
         }
     }
+
+    fn replay(
+        mut self,
+        memory: &mut [u8],
+        line: &[u8],
+        at: usize,
+        room: u64,
+        out: &mut [u8],
+        to: usize,
+    ) -> Done
+        requires { ⌜ Ready self × (at ≤ length (now line)) × (length (now line) ≤ 4096) × (to ≤ 4096) × (16384 ≤ length (now out)) ⌝ }
+        ensures { λ r. ⌜ Ready (r .shell) × (r .text .end ≤ 16383) ⌝ }
+    {
+        let text = replay(&mut self.controller.words, memory, line, at, room, out, to);
+        Done {
+            shell: self,
+            text: text,
+        }
+    }
 }
 
 // The commands that leave the controller as it is and answer with numbers.
@@ -158,7 +178,7 @@ fn act(
     out: &mut [u8],
     to: usize,
 ) -> Done
-    requires { ⌜ Ready shell × (at ≤ length (now line)) × (to ≤ 4096) × (16384 ≤ length (now out)) ⌝ }
+    requires { ⌜ Ready shell × (at ≤ length (now line)) × (length (now line) ≤ 4096) × (to ≤ 4096) × (16384 ≤ length (now out)) ⌝ }
     ensures { λ r. ⌜ Ready (r .shell) × (r .text .end ≤ 16383) ⌝ }
 {
     let numbers = a.numbers;
@@ -171,6 +191,7 @@ fn act(
             shell: shell,
             text: walk(memory, numbers, out, to),
         },
+        Command::Replay => shell.replay(memory, line, at, numbers[0], out, to),
         _ => {
             let ran = run(shell, memory, line, at, command, a);
             let next = ran.shell;

@@ -13,7 +13,7 @@ pub struct Text {
     pub end: usize,
 }
 
-fn bad() -> Text
+pub fn bad() -> Text
     ensures { λ r. ⌜ r .end ≤ 16383 ⌝ }
 {
     Text {

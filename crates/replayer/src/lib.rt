@@ -1,0 +1,104 @@
+// The console's replay: the trace stands on a line.
+ghost use mathlib.Core.Path.{_≡_};
+ghost use Prim.Native.Nat.{_+_, _*_, _≤_};
+ghost use lib.ListN.{length};
+ghost use Rattle.store.specs.Held.{Reached};
+use replay::Replayed;
+use stateless::text::Text;
+use stateless::text::bad;
+use store::WORDS;
+use words::line::next_word;
+use words::print::put_hex;
+use words::print::put_next;
+use words::print::put_one;
+
+// The most room for answer records. No line has a longer trace.
+const MOST_BYTES: usize = 2048;
+
+fn buffer() -> [u8; MOST_BYTES]
+    ensures { λ r. ⌜ 2048 ≡ length r ⌝ }
+{
+    [0; MOST_BYTES]
+}
+
+// The refusal, and the number of answer records.
+fn put_head(out: &mut [u8], at: usize, refusal: u64, records: u64) -> usize
+    requires { ⌜ at + 42 ≤ length (now out) ⌝ }
+    ensures { λ r. ⌜ r ≤ at + 42 ⌝ }
+{
+    let to = put_next(out, at, refusal);
+    put_next(out, to, records)
+}
+
+// A good answer: so many answer records, and their bytes where there are some.
+fn put_records(out: &mut [u8], at: usize, count: u64, records: &[u8]) -> usize
+    requires { ⌜ at + 43 + 2 * length (now records) ≤ length (now out) ⌝ }
+    ensures { λ r. ⌜ r ≤ at + 43 + 2 * length (now (records .entry)) ⌝ }
+{
+    let head = put_head(out, at, 0, count);
+    if count == 0 {
+        return head;
+    }
+    let to = put_one(out, head, b' ');
+    put_hex(out, to, records)
+}
+
+// Replays a trace, and puts the answer.
+fn run(
+    state: &mut [u64; WORDS],
+    memory: &mut [u8],
+    trace: &[u8],
+    room: &mut [u8],
+    out: &mut [u8],
+    at: usize,
+) -> usize
+    requires { ⌜ Reached (now state) × (length (now room) ≤ 2048) × (at ≤ 4096) × (16384 ≤ length (now out)) ⌝ }
+    ensures { λ r. ⌜ Reached (now (state .exit)) × (r ≤ 16383) ⌝ }
+{
+    match replay::replay(state, memory, trace, room) {
+        Replayed::Records(n) => {
+            let end = 16 * n as usize;
+            put_records(out, at, n, &room[..end])
+        }
+        Replayed::Refused(n) => put_head(out, at, n, 0),
+    }
+}
+
+// Replays the bytes that stand behind the first number of a line, which is the room; `at` is the place of that number.
+pub fn replay(
+    state: &mut [u64; WORDS],
+    memory: &mut [u8],
+    line: &[u8],
+    at: usize,
+    room: u64,
+    out: &mut [u8],
+    to: usize,
+) -> Text
+    requires { ⌜ Reached (now state) × (at ≤ length (now line)) × (length (now line) ≤ 4096) ⌝ }
+    requires { ⌜ (to ≤ 4096) × (16384 ≤ length (now out)) ⌝ }
+    ensures { λ r. ⌜ Reached (now (state .exit)) × (r .end ≤ 16383) ⌝ }
+{
+    if (MOST_BYTES as u64) < room {
+        return bad();
+    }
+    let mut trace = buffer();
+    let first = next_word(line, at);
+    let read = words::bytes::read(line, first.end, &mut trace);
+    if !read.good {
+        return bad();
+    }
+    let mut answers = buffer();
+    let trace_bytes = read.count;
+    let room_bytes = room as usize;
+    Text {
+        good: true,
+        end: run(
+            state,
+            memory,
+            &trace[..trace_bytes],
+            &mut answers[..room_bytes],
+            out,
+            to,
+        ),
+    }
+}
