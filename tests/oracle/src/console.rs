@@ -1,8 +1,9 @@
 //! The console's language over the oracle's own controller.
 
 use crate::entry::{put, Completion, Submission};
-use crate::line::{number, words, LONGEST};
+use crate::line::{bytes, number, words, LONGEST};
 use crate::model::Controller;
+use crate::replay::{replay, RECORD};
 use crate::ring;
 use crate::walk::{walk, Rooms};
 use std::io::{self, Read, Write};
@@ -28,7 +29,10 @@ const fn form(name: &'static str, limits: &'static [u64]) -> Form {
     Form { name, limits, further: None }
 }
 
-pub const FORMS: [Form; 23] = [
+/// The room for answer records; the words of the trace come after it.
+const REPLAY: Form = form("replay", &[2048]);
+
+pub const FORMS: [Form; 24] = [
     form("controller", &[ANY, B32]),
     form("lend", &[MEMORY as u64]),
     Form { name: "poke", limits: &[ANY, B8], further: Some(B8) },
@@ -41,6 +45,7 @@ pub const FORMS: [Form; 23] = [
     form("head", &[ANY; 2]),
     form("start", &[]),
     form("finish", &[ANY, ANY, B32]),
+    REPLAY,
     form(
         "write-sqe",
         &[ANY, ANY, B8, ANY, ANY, B16, B32, ANY, ANY, ANY, ANY, B16, B16, B32, B32, B32],
@@ -73,6 +78,14 @@ impl Form {
     }
 }
 
+/// The room and the trace of a `replay`, of the words after it; nothing where one is bad.
+pub fn replay_words(words: &[&[u8]]) -> Option<(usize, Vec<u8>)> {
+    let (room, trace) = words.split_first()?;
+    let room = REPLAY.numbers(&[room])?[0] as usize;
+    let trace: Option<Vec<Vec<u8>>> = trace.iter().map(|word| bytes(word)).collect();
+    Some((room, trace?.concat()))
+}
+
 /// What became of a line.
 pub enum Outcome {
     /// "A line with no word on it gives no answer."
@@ -81,30 +94,37 @@ pub enum Outcome {
     Bad(u64),
     /// The command's word and the numbers after it.
     Numbers(&'static str, Vec<u64>),
-    /// The bytes of a `peek`.
-    Bytes(Vec<u8>),
+    /// The same with bytes behind the numbers, for `peek` and `replay`.
+    Bytes(&'static str, Vec<u64>, Vec<u8>),
 }
 
 impl Outcome {
+    /// The bytes behind the numbers.
+    pub fn bytes(self) -> Vec<u8> {
+        match self {
+            Outcome::Bytes(_, _, bytes) => bytes,
+            _ => Vec::new(),
+        }
+    }
+
     /// "the command's word, then numbers in decimal, one space between, LF".
     pub fn write(&self, out: &mut Vec<u8>) {
         match self {
             Outcome::Silent => return,
-            Outcome::Bad(line) => {
-                out.push(b'?');
-                write_number(*line, out);
-            }
-            Outcome::Numbers(name, numbers) => {
-                out.extend_from_slice(name.as_bytes());
-                numbers.iter().for_each(|number| write_number(*number, out));
-            }
-            Outcome::Bytes(bytes) => {
-                out.extend_from_slice(b"peek");
+            Outcome::Bad(line) => write_numbers("?", &[*line], out),
+            Outcome::Numbers(name, numbers) => write_numbers(name, numbers, out),
+            Outcome::Bytes(name, numbers, bytes) => {
+                write_numbers(name, numbers, out);
                 write_bytes(bytes, out);
             }
         }
         out.push(b'\n');
     }
+}
+
+fn write_numbers(name: &str, numbers: &[u64], out: &mut Vec<u8>) {
+    out.extend_from_slice(name.as_bytes());
+    numbers.iter().for_each(|number| write_number(*number, out));
 }
 
 fn write_number(number: u64, out: &mut Vec<u8>) {
@@ -123,7 +143,7 @@ fn write_number(number: u64, out: &mut Vec<u8>) {
     out.extend_from_slice(&digits[at..]);
 }
 
-/// "two lowercase hexadecimal digits a byte, no spaces between; `peek` alone where COUNT is 0".
+/// "two lowercase hexadecimal digits a byte, no spaces between"; nothing for no bytes.
 fn write_bytes(bytes: &[u8], out: &mut Vec<u8>) {
     if !bytes.is_empty() {
         out.push(b' ');
@@ -151,6 +171,7 @@ fn refusal_and<const COUNT: usize>(answer: Result<[u64; COUNT], u64>) -> Vec<u64
     all
 }
 
+#[derive(Clone)]
 pub struct Console {
     memory: Vec<u8>,
     /// How many bytes, from the first on, are lent.
@@ -185,12 +206,28 @@ impl Console {
 
     fn command(&mut self, name: &[u8], words: &[&[u8]]) -> Option<Outcome> {
         let form = FORMS.iter().find(|form| form.name.as_bytes() == name)?;
+        if form.name == REPLAY.name {
+            let (room, trace) = replay_words(words)?;
+            return Some(self.replay(room, &trace));
+        }
         let numbers = form.numbers(words)?;
         if form.name == "peek" {
             let part = self.part(numbers[0], numbers[1])?;
-            return Some(Outcome::Bytes(self.memory[part].to_vec()));
+            return Some(Outcome::Bytes(form.name, Vec::new(), self.memory[part].to_vec()));
         }
         Some(Outcome::Numbers(form.name, self.call(form.name, &numbers)?))
+    }
+
+    /// Replays the trace on the lent memory: the refusal, how many answer records there are,
+    /// and their bytes.
+    pub fn replay(&mut self, room: usize, trace: &[u8]) -> Outcome {
+        let memory = &mut self.memory[..self.lent];
+        let (refusal, answers) = match replay(&mut self.controller, memory, trace, room) {
+            Ok(answers) => (0, answers),
+            Err(refusal) => (refusal, Vec::new()),
+        };
+        let records = (answers.len() / RECORD) as u64;
+        Outcome::Bytes(REPLAY.name, vec![refusal, records], answers)
     }
 
     /// "AT and ROOM (or a COUNT of bytes) name the part of the lent memory from AT on; it may

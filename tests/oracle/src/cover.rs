@@ -2,9 +2,11 @@
 
 use crate::arbiter::Candidates;
 use crate::console::{lines, Console, Outcome, FORMS};
+use crate::cover_replay::{self, record_events, Replay};
 use crate::entry::Submission;
 use crate::line::{number, words};
 use crate::model::{Sq, CID_CONFLICT, FAILED_FUSED, INVALID_FIELD, MISSING_FUSED, TAGS};
+use crate::replay::{Call, MALFORMED, RECORD, SHORT};
 use crate::ring;
 use crate::walk::{read_list, touched};
 use std::collections::BTreeMap;
@@ -88,7 +90,7 @@ struct Cover {
     calls: BTreeMap<&'static str, [u64; 2]>,
     /// For each refusal number and command the count.
     refusals: BTreeMap<u64, BTreeMap<&'static str, u64>>,
-    events: BTreeMap<&'static str, [u64; 2]>,
+    events: BTreeMap<String, [u64; 2]>,
     /// For each second half outstanding the tag that its first half was given.
     firsts: BTreeMap<u64, u64>,
 }
@@ -96,9 +98,8 @@ struct Cover {
 /// The table for a script.
 pub fn table(script: &[u8]) -> String {
     let mut cover = Cover { console: Some(Console::new()), ..Cover::default() };
-    for event in EVENTS.into_iter().chain(BURSTS).chain(POINTERS) {
-        cover.events.insert(event, [0; 2]);
-    }
+    let events = EVENTS.into_iter().chain(BURSTS).chain(POINTERS).map(str::to_string);
+    cover.events = events.chain(cover_replay::events()).map(|event| (event, [0; 2])).collect();
     for (line, ended) in lines(script) {
         cover.take(line, ended);
     }
@@ -112,50 +113,79 @@ fn arguments(line: &[u8], ended: bool) -> Vec<u64> {
 }
 
 impl Cover {
-    fn count(&mut self, console: &Console, event: &'static str) {
-        let counts = self.events.entry(event).or_default();
+    fn count(&mut self, console: &Console, event: &str) {
+        let counts = self.events.entry(event.to_string()).or_default();
         counts[console.controller.arbiter().mechanism() as usize] += 1;
     }
 
     fn take(&mut self, line: &[u8], ended: bool) {
         let Some(mut console) = self.console.take() else { return };
-        let asked = arguments(line, ended);
-        self.before(&console, line, &asked);
-        let free = console.controller.free_tags().count();
-        let credits: u64 = console.controller.arbiter().credits().iter().sum();
-        let candidates = console.controller.candidates();
-        let verdict = asked.first().and_then(|tag| verdict(&console, *tag));
         self.lines += 1;
-        match console.take(line, ended) {
+        let replay = Replay::of(line, ended).map(|replay| (replay, console.clone()));
+        match self.make(&mut console, line, ended) {
             Outcome::Silent => self.silent += 1,
             Outcome::Bad(_) => self.bad += 1,
-            Outcome::Bytes(_) => self.call("peek", 0),
+            Outcome::Bytes(name, numbers, bytes) => {
+                self.call(name, numbers.first().copied().unwrap_or(0));
+                if let Some((replay, before)) = replay {
+                    self.replayed(&replay, before, &bytes);
+                }
+            }
             Outcome::Numbers(name, answer) => {
                 let plain = name.starts_with("show")
                     || name.starts_with("poke")
                     || name == "lend"
                     || name == "fill";
                 self.call(name, if plain { 0 } else { answer[0] });
-                match name {
-                    "start" => {
-                        self.started(&console, &answer, free);
-                        self.arbitrated(&console, &answer, credits, candidates);
-                    }
-                    "tail" if answer[0] == 10 => self.count(&console, "tail: marks"),
-                    "finish" if answer[0] == 0 => {
-                        self.finished(&console, &asked, answer[1], verdict)
-                    }
-                    "waiting" if answer[0] == 0 => self.read(&console, &asked, answer[1]),
-                    "walk" => self.walked(&console, &asked, &answer),
-                    "create-cq" | "create-sq" if answer[0] == 0 => {
-                        self.count(&console, "create: accepted")
-                    }
-                    "controller" => self.firsts.clear(),
-                    _ => {}
-                }
             }
         }
         self.console = Some(console);
+    }
+
+    /// Gives the console a line and counts what it reaches.
+    fn make(&mut self, console: &mut Console, line: &[u8], ended: bool) -> Outcome {
+        let asked = arguments(line, ended);
+        self.before(console, line, &asked);
+        let free = console.controller.free_tags().count();
+        let credits: u64 = console.controller.arbiter().credits().iter().sum();
+        let candidates = console.controller.candidates();
+        let verdict = asked.first().and_then(|tag| verdict(console, *tag));
+        let outcome = console.take(line, ended);
+        let Outcome::Numbers(name, answer) = &outcome else { return outcome };
+        match *name {
+            "start" => {
+                self.started(console, answer, free);
+                self.arbitrated(console, answer, credits, candidates);
+            }
+            "tail" if answer[0] == 10 => self.count(console, "tail: marks"),
+            "finish" if answer[0] == 0 => self.finished(console, &asked, answer[1], verdict),
+            "waiting" if answer[0] == 0 => self.read(console, &asked, answer[1]),
+            "walk" => self.walked(console, &asked, answer),
+            "create-cq" | "create-sq" if answer[0] == 0 => self.count(console, "create: accepted"),
+            "controller" => self.firsts.clear(),
+            _ => {}
+        }
+        outcome
+    }
+
+    /// Counts what a replay reaches. The calls that it stands for are made one by one on the
+    /// console as it was before.
+    fn replayed(&mut self, replay: &Replay, mut before: Console, answers: &[u8]) {
+        let mut events = replay.line_events();
+        events.extend(replay.answer_events(answers));
+        if answers.is_empty() {
+            events.extend(replay.held_back(&before));
+        }
+        events.iter().for_each(|event| self.count(&before, event));
+        for (record, answer) in replay.trace.chunks(RECORD).zip(answers.chunks(RECORD)) {
+            self.call(cover_replay::name(answer[0]), u64::from(answer[1]));
+            for event in record_events(&before, record, answer) {
+                self.count(&before, &event);
+            }
+            if let Ok(call) = Call::of(record) {
+                self.make(&mut before, line_of(&call).as_bytes(), true);
+            }
+        }
     }
 
     fn call(&mut self, name: &'static str, refusal: u64) {
@@ -390,27 +420,46 @@ impl Cover {
         let mut out = String::new();
         let _ =
             writeln!(out, "lines {}, bad {}, without a word {}", self.lines, self.bad, self.silent);
-        let _ = writeln!(out, "\n{:<12} {:>9} {:>9}", "command", "calls", "accepted");
-        for form in FORMS {
-            let [calls, accepted] = self.calls.get(form.name).copied().unwrap_or_default();
-            let _ = writeln!(out, "{:<12} {calls:>9} {accepted:>9}", form.name);
+        let _ = writeln!(out, "\n{:<16} {:>9} {:>9}", "command", "calls", "accepted");
+        let mut all = [0; 2];
+        for name in FORMS.iter().map(|form| form.name) {
+            let counts = self.calls_row(&mut out, name);
+            all = [all[0] + counts[0], all[1] + counts[1]];
         }
-        let calls: u64 = self.calls.values().map(|counts| counts[0]).sum();
-        let accepted: u64 = self.calls.values().map(|counts| counts[1]).sum();
-        let _ = writeln!(out, "{:<12} {calls:>9} {accepted:>9}", "all");
+        let _ = writeln!(out, "{:<16} {:>9} {:>9}", "all", all[0], all[1]);
+        for name in cover_replay::NAMES {
+            self.calls_row(&mut out, name);
+        }
         let _ = writeln!(out, "\nrefusal      count  given by");
-        for refusal in 1..=23 {
+        for refusal in (1..=23).chain([MALFORMED, SHORT]) {
             let by = self.refusals.get(&refusal).cloned().unwrap_or_default();
             let total: u64 = by.values().sum();
             let names: Vec<String> =
                 by.iter().map(|(name, count)| format!("{name} {count}")).collect();
             let _ = writeln!(out, "{refusal:>7} {total:>10}  {}", names.join(", "));
         }
-        let _ = writeln!(out, "\n{:<54} {:>11} {:>11}", "event", "mechanism 0", "mechanism 1");
+        let _ = writeln!(out, "\n{:<60} {:>11} {:>11}", "event", "mechanism 0", "mechanism 1");
         for (event, [round_robin, weighted]) in &self.events {
-            let _ = writeln!(out, "{event:<54} {round_robin:>11} {weighted:>11}");
+            let _ = writeln!(out, "{event:<60} {round_robin:>11} {weighted:>11}");
         }
         out
+    }
+
+    /// Prints how often this was called and accepted.
+    fn calls_row(&self, out: &mut String, name: &'static str) -> [u64; 2] {
+        let [calls, accepted] = self.calls.get(name).copied().unwrap_or_default();
+        let _ = writeln!(out, "{name:<16} {calls:>9} {accepted:>9}");
+        [calls, accepted]
+    }
+}
+
+/// The console's line for a replayed call.
+fn line_of(call: &Call) -> String {
+    match call {
+        Call::Tail { sq, value } => format!("tail {sq} {value}"),
+        Call::Head { cq, value } => format!("head {cq} {value}"),
+        Call::Start => "start".to_string(),
+        Call::Finish { tag, status } => format!("finish {tag} {status} 0"),
     }
 }
 

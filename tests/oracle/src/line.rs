@@ -41,3 +41,12 @@ pub fn number(word: &[u8]) -> Option<u64> {
     }
     Some(value)
 }
+
+/// The bytes of a word of a trace: two hexadecimal digits of either case for each byte.
+pub fn bytes(word: &[u8]) -> Option<Vec<u8>> {
+    if word.len() % 2 != 0 {
+        return None;
+    }
+    let digit = |digit: u8| (digit as char).to_digit(16);
+    word.chunks(2).map(|pair| Some((16 * digit(pair[0])? + digit(pair[1])?) as u8)).collect()
+}

@@ -1,11 +1,13 @@
-//! A second implementation of document 01, written from the papers and from the same list of
-//! readings (docs/DECISIONS.md), sharing no code with the model, with a generator of random scripts
-//! in the console's language and a runner that holds another console to it.
+//! A second implementation of document 01 and of document 02's replay, written from the papers and
+//! from the same list of readings (docs/DECISIONS.md), sharing no code with the model, with a
+//! generator of random scripts in the console's language and a runner that holds another console to
+//! it.
 
 mod arbiter;
 mod compare;
 mod console;
 mod cover;
+mod cover_replay;
 mod creates;
 mod entry;
 mod generate;
@@ -14,9 +16,11 @@ mod model;
 mod noise;
 mod pieces;
 mod random;
+mod replay;
 mod ring;
 mod shrink;
 mod traced;
+mod traced_replay;
 mod traffic;
 mod walk;
 

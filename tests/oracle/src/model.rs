@@ -15,6 +15,7 @@ pub const CID_CONFLICT: u64 = 0x03;
 pub const FAILED_FUSED: u64 = 0x09;
 pub const MISSING_FUSED: u64 = 0x0A;
 
+#[derive(Clone)]
 pub struct Sq {
     pub base: u64,
     pub size: u64,
@@ -25,6 +26,7 @@ pub struct Sq {
     pub marked: bool,
 }
 
+#[derive(Clone)]
 pub struct Cq {
     pub base: u64,
     pub size: u64,
@@ -47,6 +49,7 @@ pub enum Part {
 }
 
 /// An outstanding command.
+#[derive(Clone)]
 pub struct Command {
     pub sq: usize,
     pub cid: u64,
@@ -65,6 +68,7 @@ pub struct Started {
     pub verdict: u64,
 }
 
+#[derive(Clone)]
 pub struct Controller {
     arbiter: Arbiter,
     pub sqs: [Option<Sq>; QUEUES],

@@ -1,10 +1,12 @@
 //! The traced examples at the end of document 01, with a few on pairs and on input lines,
-//! played through the console. `oracle selftest` runs them, and so does `cargo test`.
+//! played through the console. `oracle selftest` runs them and those of the replay, and so does
+//! `cargo test`.
 
 use crate::console::{answers, Console};
+use crate::traced_replay;
 
 /// A console that remembers every answer other than the expected one.
-struct Trial {
+pub struct Trial {
     console: Console,
     faults: Vec<String>,
 }
@@ -20,7 +22,7 @@ impl Trial {
         String::from_utf8_lossy(&out).trim_end().to_string()
     }
 
-    fn expect(&mut self, line: &str, expected: &str) {
+    pub fn expect(&mut self, line: &str, expected: &str) {
         let answer = self.ask(line);
         if answer != expected {
             self.faults.push(format!("{line}: {answer}, expected {expected}"));
@@ -28,7 +30,7 @@ impl Trial {
     }
 
     /// Each line of the text is `line => answer`.
-    fn play(&mut self, text: &str) {
+    pub fn play(&mut self, text: &str) {
         for (line, expected) in text.lines().filter_map(|line| line.split_once(" => ")) {
             self.expect(line.trim(), expected.trim());
         }
@@ -204,7 +206,7 @@ fn lines(t: &mut Trial) {
 }
 
 /// A trial's name and what it plays on a fresh console.
-type Named = (&'static str, fn(&mut Trial));
+pub type Named = (&'static str, fn(&mut Trial));
 
 const TRIALS: [Named; 10] = [
     ("P1", p1),
@@ -222,7 +224,7 @@ const TRIALS: [Named; 10] = [
 /// Plays all trials; answers what went wrong.
 pub fn faults() -> Vec<String> {
     let mut all = Vec::new();
-    for (name, play) in TRIALS {
+    for (name, play) in TRIALS.into_iter().chain(traced_replay::TRIALS) {
         let mut trial = Trial::new();
         play(&mut trial);
         all.extend(trial.faults.into_iter().map(|fault| format!("{name}: {fault}")));
