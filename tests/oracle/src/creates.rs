@@ -2,7 +2,7 @@
 
 use crate::console::MEMORY;
 use crate::entry::{COMPLETION, SUBMISSION};
-use crate::generate::{Generator, SCRATCH};
+use crate::generate::{Generator, Mood, SCRATCH};
 use crate::ring::Extent;
 
 impl Generator {
@@ -13,14 +13,14 @@ impl Generator {
             self.say(&format!("fill 0 {MEMORY} 0"));
         }
         let word = self.word();
-        let sound = self.random.below(2);
-        let mechanism = match self.random.weighted(&[85, 10, 5]) {
+        let sound = self.chapter % 2;
+        let mechanism = match self.random.weighted(&[75, 17, 8]) {
             0 => sound,
             1 => self.random.edge(),
             _ => self.random.lifted(sound),
         };
-        if !self.say(&format!("controller {mechanism} {word}")) && self.random.chance(50) {
-            self.say(&format!("controller 1 {word}"));
+        if !self.say(&format!("controller {mechanism} {word}")) && self.random.chance(70) {
+            self.say(&format!("controller {sound} {word}"));
         }
         // Few queues, several SQs on few CQs, or all sixteen.
         let (cqs, sqs) = match self.random.weighted(&[35, 45, 10]) {
@@ -28,7 +28,7 @@ impl Generator {
             1 => (self.random.within(1, 2), self.random.within(3, 8)),
             _ => (15, 15),
         };
-        let sizes = self.random.weighted(&[60, 20, 12, 8]);
+        let sizes = if self.chapter % 9 == 0 { 3 } else { self.random.weighted(&[65, 20, 12, 3]) };
         // With or without the Admin queues.
         let first = u64::from(self.random.chance(30));
         for id in first..=cqs {
@@ -42,10 +42,10 @@ impl Generator {
         }
     }
 
-    /// All bursts, weights that are small, small but for their highest bit, or any, and
-    /// something in the ignored bits.
+    /// All bursts by turns in both mechanisms, weights that are small, small but for their
+    /// highest bit, or any, and something in the ignored bits.
     fn word(&mut self) -> u64 {
-        let mut word = self.random.below(8) + 8 * self.random.below(4).saturating_sub(2);
+        let mut word = self.chapter / 2 % 8 + 8 * self.random.below(4).saturating_sub(2);
         for shift in [8, 16, 24] {
             let weight = match self.random.weighted(&[60, 20, 20]) {
                 0 => self.random.below(4),
@@ -224,13 +224,14 @@ impl Generator {
             self.say(&format!("create-cq {id} 2 {start}"));
         }
         for _ in 0..self.random.within(2, 8) {
-            match self.random.below(7) {
+            match self.random.below(8) {
                 0 | 1 => {
                     self.say("start");
                 }
                 2 | 3 => self.finish(),
                 4 => self.odd_create(),
                 5 => self.reader(),
+                6 => self.replay(Mood::Normal),
                 _ => self.memory(),
             }
         }

@@ -17,11 +17,13 @@ pub struct Generator {
     wanted: usize,
     /// The last CID given out.
     pub last_cid: u64,
+    /// Counts the chapters up from any number.
+    pub chapter: u64,
 }
 
 /// What the traffic of a stretch of lines tends to.
 #[derive(Clone, Copy)]
-enum Mood {
+pub enum Mood {
     Normal,
     /// Starts and finishes nothing, until the tags run out.
     Hoard,
@@ -29,6 +31,21 @@ enum Mood {
     Stall,
     /// Submits nothing.
     Drain,
+    /// Starts and finishes as many as it can.
+    Through,
+}
+
+impl Mood {
+    /// How often it submits, starts, finishes and moves heads.
+    pub fn weights(self) -> [u64; 4] {
+        match self {
+            Mood::Normal => [28, 32, 26, 14],
+            Mood::Hoard => [35, 64, 1, 0],
+            Mood::Stall => [25, 35, 40, 0],
+            Mood::Drain => [2, 30, 40, 28],
+            Mood::Through => [6, 46, 46, 2],
+        }
+    }
 }
 
 /// A script of about so many lines.
@@ -40,9 +57,11 @@ pub fn script(seed: u64, lines: usize) -> Vec<u8> {
         lines: 0,
         wanted: lines,
         last_cid: 0,
+        chapter: 0,
     };
+    generator.chapter = generator.random.below(16);
     while !generator.is_done() {
-        generator.chapter();
+        generator.play_chapter();
     }
     generator.last_line();
     generator.script
@@ -67,7 +86,9 @@ impl Generator {
         let dressed = self.random.chance(5) && text.len() < 500;
         let line = if dressed { self.dress(text) } else { text.as_bytes().to_vec() };
         match self.raw(&line) {
-            Outcome::Numbers(_, numbers) => numbers[0] == 0,
+            Outcome::Numbers(_, numbers) | Outcome::Bytes(_, numbers, _) => {
+                numbers.first() == Some(&0)
+            }
             _ => false,
         }
     }
@@ -79,7 +100,8 @@ impl Generator {
     }
 
     /// A fresh controller with queues, and traffic on it in one mood after another.
-    fn chapter(&mut self) {
+    fn play_chapter(&mut self) {
+        self.chapter += 1;
         self.open();
         for _ in 0..self.random.within(1, 6) {
             let mood = [Mood::Normal, Mood::Hoard, Mood::Stall, Mood::Drain]
@@ -89,6 +111,9 @@ impl Generator {
                     return;
                 }
                 self.step(mood);
+            }
+            if self.random.chance(70) {
+                self.long_replays();
             }
             if self.unmarked_sqs().is_empty() {
                 return;
@@ -100,7 +125,7 @@ impl Generator {
         if self.console.lent < MEMORY && self.random.chance(30) {
             self.say(&format!("lend {MEMORY}"));
         }
-        match self.random.weighted(&[500, 70, 32, 22, 36, 70, 40, 28, 60, 10, 6, 7, 3, 1, 6]) {
+        match self.random.weighted(&[500, 70, 32, 22, 36, 70, 40, 28, 60, 10, 6, 7, 3, 1, 6, 170]) {
             0 => self.traffic(mood),
             1 => self.odd_create(),
             2 => self.walks(),
@@ -115,18 +140,13 @@ impl Generator {
             11 => self.reused_tag(),
             12 => self.last_tag(),
             13 => self.long_run(),
-            _ => self.crowd(),
+            14 => self.crowd(),
+            _ => self.replay(mood),
         }
     }
 
     fn traffic(&mut self, mood: Mood) {
-        let weights = match mood {
-            Mood::Normal => [28, 32, 26, 14],
-            Mood::Hoard => [35, 64, 1, 0],
-            Mood::Stall => [25, 35, 40, 0],
-            Mood::Drain => [2, 30, 40, 28],
-        };
-        match self.random.weighted(&weights) {
+        match self.random.weighted(&mood.weights()) {
             0 => self.submit(),
             1 => self.start(),
             2 => self.finish(),

@@ -47,10 +47,12 @@ impl Generator {
                     b" \t\t",
                 ]));
             }
+            // The words of a trace are no numbers.
+            let traced = place > 1 && text.starts_with("replay");
             let number = word.parse::<u64>();
             match number {
-                Ok(number) => line.extend_from_slice(self.number(number).as_bytes()),
-                Err(_) => line.extend_from_slice(word.as_bytes()),
+                Ok(number) if !traced => line.extend_from_slice(self.number(number).as_bytes()),
+                _ => line.extend_from_slice(word.as_bytes()),
             }
         }
         line.extend_from_slice(self.random.pick(&[
@@ -114,6 +116,8 @@ impl Generator {
             format!("write-cqe 1048000 16 {a} {b} {c} {a} {b} {c}"),
             format!("write-sqe 1048000 64 {a} 0 0 {b} 1 0 0 0 {c} 0 0 0 0 0"),
             format!("create-cq {a} 2 {}", 4096 * b),
+            format!("replay 16 02{a:02x}{b:02x}{:026}", 0),
+            format!("replay 48 02{a:02x} {b:02x}{:026} 05", 0),
             "start".to_string(),
         ];
         let place = self.random.below(lines.len() as u64) as usize;
@@ -256,6 +260,7 @@ impl Generator {
             format!("poke64 {} 1", 1_048_568 + over),
             format!("fill 1048000 {} 0", 576 + over),
             format!("fill {} 0 0", 1_048_576 + over),
+            format!("replay {} {:032}", 2048 + over, 0),
             format!("peek {} 0", 1_048_576 + over),
             format!("peek {} 2", 1_048_574 + over),
             format!("peek {} 1024", u64::MAX - over),

@@ -29,12 +29,18 @@ impl Generator {
 
     /// Submits up to so many entries to the SQ.
     pub fn submit_to(&mut self, id: usize, most: u64) {
+        let entries = self.batch(id, most);
+        self.submit_entries(id, &entries);
+    }
+
+    /// So many entries for the SQ.
+    pub fn batch(&mut self, id: usize, most: u64) -> Vec<Submission> {
         let mut entries = Vec::new();
         while (entries.len() as u64) < most {
             let left = most - entries.len() as u64;
             self.add_commands(id, left, &mut entries);
         }
-        self.submit_entries(id, &entries);
+        entries
     }
 
     pub fn submit_entries(&mut self, id: usize, entries: &[Submission]) {
@@ -137,7 +143,7 @@ impl Generator {
     }
 
     fn damage(&mut self, first: &mut Submission, second: &mut Submission) {
-        match self.random.below(10) {
+        match self.random.weighted(&[10, 15, 10, 10, 10, 10, 10, 10, 10, 10]) {
             0 => first.opc ^= self.random.one_bit(8),
             1 => {
                 let any = self.random.below(256);
@@ -247,7 +253,7 @@ impl Generator {
     }
 
     /// Looks at the bytes of the entry before the tail of a CQ.
-    fn show_last_posting(&mut self, cq: Option<u64>) {
+    pub fn show_last_posting(&mut self, cq: Option<u64>) {
         if let Some(cq) = cq.and_then(|id| self.console.controller.cq(id)) {
             let at = cq.base + 16 * ((cq.tail + cq.size - 1) % cq.size);
             self.say(&format!("peek {at} 16"));
@@ -408,10 +414,13 @@ impl Generator {
         }
     }
 
-    /// Sends an SQ, most likely a large one, once around its ring with what its slots hold.
+    /// Sends an SQ once around its ring with what its slots hold, a large one mostly by traces.
     pub fn long_run(&mut self) {
         let Some(id) = self.random.choose(&self.unmarked_sqs()) else { return };
         let size = self.sq(id).map_or(0, |sq| sq.size);
+        if size > 256 && self.random.chance(80) {
+            return self.long_replays();
+        }
         for _ in 0..size / 50 + 1 {
             if self.is_done() || self.unmarked_sqs().is_empty() {
                 return;
