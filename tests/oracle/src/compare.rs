@@ -1,7 +1,7 @@
 //! Runs another console on a script and holds its answers against the oracle's.
 
 use crate::console::{answers, lines, Console, Outcome};
-use crate::shrink::shrink;
+use crate::shrink::{shrink, shrink_traces};
 use std::io::{BufRead, BufReader, Read, Write};
 use std::process::{Child, Command, Stdio};
 use std::sync::mpsc::{channel, RecvTimeoutError};
@@ -20,6 +20,24 @@ struct Difference {
     line: usize,
     ours: String,
     theirs: String,
+}
+
+impl Difference {
+    /// Prints both answers, of long ones the part where they begin to differ.
+    fn print(&self) {
+        let same = self.ours.chars().zip(self.theirs.chars()).take_while(|(a, b)| a == b).count();
+        println!("  oracle:  {}", from_about(&self.ours, same));
+        println!("  program: {}", from_about(&self.theirs, same));
+    }
+}
+
+/// An answer as it can be shown: of a long one the part around this place.
+fn from_about(answer: &str, place: usize) -> String {
+    if answer.len() <= 400 {
+        return answer.to_string();
+    }
+    let part: String = answer.chars().skip(place.saturating_sub(100)).take(300).collect();
+    format!(".. {part} ..")
 }
 
 /// The program is a path, with its own words after it, if any.
@@ -156,13 +174,14 @@ pub fn compare(program: &str, script: &[u8], file: Option<&str>) -> Result<bool,
         all.len(),
         shown(all[first.line - 1])
     );
-    println!("  oracle:  {}", first.ours);
-    println!("  program: {}", first.theirs);
+    first.print();
     let head = &all[..first.line];
     let mut still = |part: &[u8]| matches!(difference(program, part), Ok(Some(_)));
     // A difference that shows only at the end of the input needs the whole script.
     let from = if still(&head.concat()) { head } else { all.as_slice() };
-    let least = shrink(from, &mut still);
+    let shorter = shrink_traces(&shrink(from, &mut still), &mut still);
+    let shorter: Vec<&[u8]> = shorter.iter().map(Vec::as_slice).collect();
+    let least = shrink(&shorter, &mut still);
     let least_script = least.concat();
     if let Some(file) = file {
         std::fs::write(file, &least_script).map_err(|error| format!("{file}: {error}"))?;
@@ -171,8 +190,7 @@ pub fn compare(program: &str, script: &[u8], file: Option<&str>) -> Result<bool,
     least.iter().for_each(|line| println!("{}", shown(line)));
     if let Some(last) = difference(program, &least_script)? {
         println!("difference there at line {}:", last.line);
-        println!("  oracle:  {}", last.ours);
-        println!("  program: {}", last.theirs);
+        last.print();
     }
     Ok(false)
 }
