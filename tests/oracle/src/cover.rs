@@ -8,12 +8,13 @@ use crate::line::{number, words};
 use crate::model::{Sq, CID_CONFLICT, FAILED_FUSED, INVALID_FIELD, MISSING_FUSED, TAGS};
 use crate::replay::{Call, MALFORMED, RECORD, SHORT};
 use crate::ring;
-use crate::walk::{read_list, touched};
+use crate::walk::{read_list, touched, Listed};
 use std::collections::BTreeMap;
 use std::fmt::Write;
 
 /// Everything counted under a name, for mechanism 0 and for mechanism 1.
-const EVENTS: [&str; 43] = [
+const EVENTS: [&str; 49] = [
+    "completion writer: status and room are wrong",
     "create: accepted",
     "create: two or more faults at once",
     "finish: 02h posted",
@@ -33,6 +34,7 @@ const EVENTS: [&str; 43] = [
     "start: alone, a CID in use has the same low byte",
     "start: candidates in two levels",
     "start: credits refilled",
+    "start: first of a controller, SQ 0 and another wait",
     "start: four candidates or more",
     "start: FUSE 3 behind FUSE 1",
     "start: pair over the wrap",
@@ -55,8 +57,12 @@ const EVENTS: [&str; 43] = [
     "start: weight byte of 80h or more, two levels wait",
     "tail: marks",
     "tail: same value",
+    "walk: 18 for PRP1 before 21",
     "walk: 18 for an entry that is a multiple of 4,096",
     "walk: 18 for a pointer that is a multiple of 4,096",
+    "walk: 20 before 22",
+    "walk: 22 before 18 for PRP1",
+    "walk: list goes on past a multiple of 4,096 in its page",
 ];
 
 /// Starts under each burst number of the feature word.
@@ -93,6 +99,8 @@ struct Cover {
     events: BTreeMap<String, [u64; 2]>,
     /// For each second half outstanding the tag that its first half was given.
     firsts: BTreeMap<u64, u64>,
+    /// Whether the controller has started nothing.
+    fresh: bool,
 }
 
 /// The table for a script.
@@ -161,8 +169,14 @@ impl Cover {
             "finish" if answer[0] == 0 => self.finished(console, &asked, answer[1], verdict),
             "waiting" if answer[0] == 0 => self.read(console, &asked, answer[1]),
             "walk" => self.walked(console, &asked, answer),
+            "write-cqe" if answer[0] == 15 && asked[1] < 16 => {
+                self.count(console, "completion writer: status and room are wrong")
+            }
             "create-cq" | "create-sq" if answer[0] == 0 => self.count(console, "create: accepted"),
-            "controller" => self.firsts.clear(),
+            "controller" => {
+                self.firsts.clear();
+                self.fresh = true;
+            }
             _ => {}
         }
         outcome
@@ -272,6 +286,10 @@ impl Cover {
         if candidates.iter().flatten().count() >= 4 {
             self.count(console, "start: four candidates or more");
         }
+        if self.fresh && candidates[0].is_some() && candidates[1..].iter().any(Option::is_some) {
+            self.count(console, "start: first of a controller, SQ 0 and another wait");
+        }
+        self.fresh = false;
         let levels = (1..=3).filter(|class| candidates[1..].contains(&Some(*class))).count();
         if levels >= 2 {
             self.count(console, "start: candidates in two levels");
@@ -344,19 +362,33 @@ impl Cover {
         }
     }
 
-    /// A walk over a pointer, or one that stopped in its list at an offset of whole 4,096s.
+    /// A walk over a pointer or over 4,096 bytes of a list page, or one that stopped in its
+    /// list at an offset of whole 4,096s.
     fn walked(&mut self, console: &Console, asked: &[u64], answer: &[u64]) {
-        let [prp1, prp2, length, number, ..] = *asked else { return };
+        let [prp1, prp2, length, number, room_a, _] = *asked else { return };
+        match answer[0] {
+            18 if prp1 % 4 != 0 && room_a < 8 => self.count(console, "walk: 18 for PRP1 before 21"),
+            20 if number > 4 => self.count(console, "walk: 20 before 22"),
+            22 if prp1 % 4 != 0 => self.count(console, "walk: 22 before 18 for PRP1"),
+            _ => {}
+        }
         if answer[0] == 0 && answer[2] >= answer[1] {
             self.count(console, POINTERS[number as usize]);
         }
-        if answer[0] != 18 || prp1 % 4 != 0 {
+        if !matches!(answer[0], 0 | 18) || prp1 % 4 != 0 {
             return;
         }
         let page = 4096 << number;
         let n = touched(prp1, length, page);
         let mut entries = Vec::new();
-        if n < 3 || read_list(console.memory(), prp2, page, n, &mut entries).is_ok() {
+        if n < 3 {
+            return;
+        }
+        if read_list(console.memory(), prp2, page, n, &mut entries).is_ok() {
+            let next = |pair: &[Listed]| !pair[0].points && pair[1].at % 4096 == 0;
+            if entries.windows(2).any(next) {
+                self.count(console, "walk: list goes on past a multiple of 4,096 in its page");
+            }
             return;
         }
         if let Some(last) = entries.last().filter(|last| last.value % 4096 == 0) {

@@ -180,7 +180,7 @@ impl Generator {
         let bytes = size.wrapping_mul(entry as u64);
         match self.random.weighted(&[40, 18, 24, 18]) {
             0 => free,
-            1 => free + self.random.pick(&[1, 16, 64, 512, 2048, 4095]),
+            1 => free + self.random.pick(&[1, 16, 64, 512, 2048, 2048, 4095]),
             2 => {
                 let starts: Vec<u64> =
                     self.console.controller.rings().map(|ring| ring.start() as u64).collect();

@@ -103,6 +103,10 @@ impl Generator {
     fn play_chapter(&mut self) {
         self.chapter += 1;
         self.open();
+        // Whom the first turn goes to shows where several wait.
+        if self.random.chance(35) {
+            self.crowd();
+        }
         for _ in 0..self.random.within(1, 6) {
             let mood = [Mood::Normal, Mood::Hoard, Mood::Stall, Mood::Drain]
                 [self.random.weighted(&[50, 15, 20, 15])];
@@ -125,7 +129,7 @@ impl Generator {
         if self.console.lent < MEMORY && self.random.chance(30) {
             self.say(&format!("lend {MEMORY}"));
         }
-        match self.random.weighted(&[500, 70, 32, 22, 36, 70, 40, 28, 60, 10, 6, 7, 3, 1, 6, 170]) {
+        match self.random.weighted(&[500, 90, 36, 24, 38, 80, 40, 28, 60, 10, 6, 7, 3, 1, 5, 170]) {
             0 => self.traffic(mood),
             1 => self.odd_create(),
             2 => self.walks(),

@@ -77,14 +77,15 @@ impl Generator {
         most.saturating_sub(cut).clamp(1, MEMORY as u64)
     }
 
-    /// Writes a list for `n` pages of data and answers its entries in reading order. It
-    /// mostly begins near the end of its page, so that pointers are met.
+    /// Writes a list for `n` pages of data and answers its entries in reading order. It mostly
+    /// begins near the end of its page, so that pointers are met, or of 4,096 bytes in it.
     fn list(&mut self, n: u64, page: u64) -> Vec<Listed> {
         let pages = (MEMORY as u64 - SCRATCH) / page;
         let places = page / 8;
         let any = self.random.below(places);
         let near = self.random.below(6);
-        let place = self.random.pick(&[places - 1 - near, places - 1 - near, places - 1, 0, any]);
+        let inner = 512 * self.random.within(1, page / 4096) - 1 - near;
+        let place = self.random.pick(&[places - 1 - near, inner, places - 1, 0, any]);
         let mut at = SCRATCH + page * self.random.below(pages) + 8 * place;
         let mut left = n - 1;
         let mut list = Vec::new();
@@ -114,27 +115,37 @@ impl Generator {
         }
     }
 
-    /// The same walk with one number changed, or two.
+    /// The same walk with one number changed, or two; now and then with one that another
+    /// refusal goes before.
     fn changed_walk(&mut self, line: WalkLine, n: u64) {
         let mut changed = line;
         for _ in 0..self.random.pick(&[1, 1, 1, 2]) {
             let edge = self.random.edge();
+            let two = self.random.chance(35);
             match self.random.below(12) {
-                0 => changed.room_a = 8 * n - self.random.within(1, 8),
+                0 => {
+                    changed.room_a = 8 * n - self.random.within(1, 8);
+                    changed.prp2 ^= if two { 4 } else { 0 };
+                }
                 1 => changed.room_c = 4 * n - self.random.within(1, 4),
                 2 => {
                     (changed.room_a, changed.room_c) =
                         self.random.pick(&[(8 * n + 5, 4 * n), (65_536, 65_536), (0, 0)])
                 }
-                3 => changed.prp1 |= self.random.within(1, 3),
+                3 => {
+                    changed.prp1 |= self.random.within(1, 3);
+                    changed.room_a = if two { 0 } else { changed.room_a };
+                }
                 4 => changed.prp2 ^= self.random.pick(&[1, 4, 8, 16, 2048, 4096]),
                 5 => {
                     let lifted = self.random.lifted(line.length);
-                    changed.length = self.random.pick(&[0, 1_048_577, lifted, edge])
+                    changed.length = self.random.pick(&[0, 1_048_577, lifted, edge]);
+                    changed.page = if two { 5 } else { changed.page };
                 }
                 6 => {
                     let lifted = self.random.lifted(line.page);
-                    changed.page = self.random.pick(&[0, 1, 4, 5, 6, lifted, edge])
+                    changed.page = self.random.pick(&[0, 1, 4, 5, 6, lifted, edge]);
+                    changed.prp1 |= u64::from(two);
                 }
                 7 | 8 => changed.length = self.random.within(1, line.length),
                 9 => {
@@ -188,7 +199,8 @@ impl Generator {
             1 => {
                 let room = self.entry_room(16);
                 let edge = self.random.edge();
-                let status = if self.random.chance(75) { self.random.below(32_768) } else { edge };
+                let wrong = self.random.pick(&[32_768, 65_536, edge]);
+                let status = if self.random.chance(65) { self.random.below(32_768) } else { wrong };
                 let numbers =
                     [self.random.below(1 << 32), self.random.below(65_536), self.random.below(16)];
                 let (cid, tag) = (self.random.below(65_536), self.random.pick(&[0, 1, 2, 3, edge]));

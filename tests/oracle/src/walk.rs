@@ -92,8 +92,10 @@ fn entry(memory: &[u8], at: u64) -> Result<u64, u64> {
     Ok(get(memory, at, 8))
 }
 
-/// An entry of a list: what stands in it, and whether it points to the next list.
+/// An entry of a list: where it stands, what stands in it, and whether it points to the next
+/// list.
 pub struct Listed {
+    pub at: u64,
     pub value: u64,
     pub points: bool,
 }
@@ -118,7 +120,7 @@ pub fn read_list(
         // "The last entry of a list page points to the next list, at offset 0, exactly if
         // more than one page of data is left."
         let points = at % page == page - 8 && left > 1;
-        entries.push(Listed { value, points });
+        entries.push(Listed { at, value, points });
         // "List entries have offset 0."
         at_offset_0(value, page)?;
         if points {
