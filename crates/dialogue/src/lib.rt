@@ -1,83 +1,37 @@
 // A conversation in the console's language: lines are read from standard input, and the answers written to standard output.
 ghost use mathlib.Core.Path.{_≡_};
-ghost use Prim.Native.Nat.{_+_, _<_, _≤_};
+ghost use Prim.Native.Nat.{_+_, _≤_};
 ghost use lib.ListN.{length};
 ghost use Rattle.dialogue.specs.Kept.{Kept};
 use crate::form::Form;
 use crate::form::put_line;
 use crate::form::put_wanted;
 use libc::STDERR_FILENO;
+use libc::STDIN_FILENO;
+use lines::CHUNK_BYTES;
+use lines::Found;
+use lines::LINE_BYTES;
+use lines::Lines;
 use shell::Shell;
-use words::line::without_cr;
 
 mod form;
-mod stream;
 
 const MEMORY_BYTES: usize = 1048576;
-
-// One byte more than a line may have, which shows that it is too long; further ones are dropped.
-const LINE_BYTES: usize = 4097;
 
 const OUT_BYTES: usize = 65536;
 
 // The room that an answer may need, 16,384 bytes, and its line before it, with the LF and the arrow between them.
 const ROOM_BYTES: usize = 20485;
 
-// How many lines have ended, and of how many the answers are written out; how many bytes of the next line are held, where the
-// chunk of input is read on, and how many bytes of answers are not yet written out; whether the conversation goes on, and the
-// form of its answers.
+// Of how many lines the answers are written out, and how many bytes of answers are not yet; whether the conversation goes on,
+// and the form of its answers.
 struct Dialogue {
     shell: Shell,
-    lines: u64,
+    lines: Lines,
     answered: u64,
-    held: usize,
-    at: usize,
     unwritten: usize,
     open: bool,
     form: Form,
-}
-
-// The next part of a line: where it ends in the chunk, how many bytes of the line are held, and whether its LF was there.
-struct Part {
-    end: usize,
-    held: usize,
-    ended: bool,
-}
-
-fn keep(line: &mut [u8], held: usize, b: u8) -> usize
-    requires { ⌜ (held ≤ 4097) × (4097 ≤ length (now line)) ⌝ }
-    ensures { λ r. ⌜ r ≤ 4097 ⌝ }
-{
-    if held < LINE_BYTES {
-        line[held] = b;
-        return held + 1;
-    }
-    held
-}
-
-fn gather(chunk: &[u8], at: usize, line: &mut [u8], held: usize) -> Part
-    requires { ⌜ (at < length (now chunk)) × (held ≤ 4097) × (4097 ≤ length (now line)) ⌝ }
-    ensures { λ r. ⌜ (at < r .end) × (r .end ≤ length (now (chunk .entry))) × (r .held ≤ 4097) ⌝ }
-{
-    let mut i = at;
-    let mut n = held;
-    while i < chunk.len() {
-        let b = chunk[i];
-        i += 1;
-        if b == b'\n' {
-            return Part {
-                end: i,
-                held: n,
-                ended: true,
-            };
-        }
-        n = keep(line, n, b);
-    }
-    Part {
-        end: i,
-        held: n,
-        ended: false,
-    }
 }
 
 // Says on standard error what failed, by which error and where, and ends the conversation.
@@ -110,11 +64,12 @@ fn write_out(mut s: Dialogue, out: &[u8]) -> Dialogue
     if error > 0 {
         return give_up(s, b"write", error);
     }
-    s.answered = s.lines;
+    let lines = s.lines;
+    s.answered = lines.ended;
     s
 }
 
-// Writes the answers out where there is little room left for another.
+// Writes the answers out where there is little room left for another, and before more is read.
 fn with_room(s: Dialogue, out: &[u8]) -> Dialogue
     requires { ⌜ Kept s × (65536 ≡ length (now out)) ⌝ }
     ensures { λ r. ⌜ Kept r × (r .unwritten + 20485 ≤ 65536) ⌝ }
@@ -122,119 +77,101 @@ fn with_room(s: Dialogue, out: &[u8]) -> Dialogue
     if OUT_BYTES - s.unwritten < ROOM_BYTES {
         return write_out(s, out);
     }
+    let lines = s.lines;
+    if lines.at == lines.count {
+        return write_out(s, out);
+    }
     s
 }
 
-// Answers a line behind the answers that are not yet written out.
-fn answer(s: Dialogue, memory: &mut [u8], line: &[u8], out: &mut [u8]) -> Dialogue
+// Answers a line of a number behind the answers that are not yet written out.
+fn answer(s: Dialogue, number: u64, memory: &mut [u8], line: &[u8], out: &mut [u8]) -> Dialogue
     requires { ⌜ Kept s × (s .unwritten + 20485 ≤ 65536) × (length (now line) ≤ 4097) ⌝ }
     requires { ⌜ (1048576 ≤ length (now memory)) × (65536 ≡ length (now out)) ⌝ }
-    ensures { λ r. ⌜ Kept r × (r .at ≡ s .at) ⌝ }
+    ensures { λ r. ⌜ Kept r ⌝ }
 {
     let mut next = s;
     let form = s.form;
     let place = put_line(form, line, out, s.unwritten);
     let start = place.answer;
-    let answered = shell::answer(s.shell, memory, line, s.lines, &mut out[start..]);
+    let answered = shell::answer(s.shell, memory, line, number, &mut out[start..]);
     let shell = answered.shell;
     next.shell = shell;
-    next.held = 0;
     next.unwritten = put_wanted(form, line, out, place, answered.length);
     next
 }
 
-// Takes a line that ended.
-fn respond(s: Dialogue, at: usize, memory: &mut [u8], line: &[u8], out: &mut [u8]) -> Dialogue
-    requires { ⌜ Kept s × (length (now line) ≤ 4097) ⌝ }
+// Answers the line of n bytes that stands at the start of a buffer.
+fn respond(s: Dialogue, memory: &mut [u8], line: &[u8], n: usize, out: &mut [u8]) -> Dialogue
+    requires { ⌜ Kept s × (s .unwritten + 20485 ≤ 65536) × (n ≤ 4097) × (4097 ≡ length (now line)) ⌝ }
     requires { ⌜ (1048576 ≤ length (now memory)) × (65536 ≡ length (now out)) ⌝ }
-    ensures { λ r. ⌜ Kept r × (r .at ≡ at) ⌝ }
-{
-    let mut next = with_room(s, out);
-    next.at = at;
-    if !next.open {
-        return next;
-    }
-    next.lines = std::num::wrapping_add_u64(s.lines, 1);
-    answer(next, memory, line, out)
-}
-
-// Reads a chunk on to the end of a line, which is answered, or to its own end.
-fn step(s: Dialogue, memory: &mut [u8], chunk: &[u8], line: &mut [u8], out: &mut [u8]) -> Dialogue
-    requires { ⌜ Kept s × (s .at < length (now chunk)) ⌝ }
-    requires { ⌜ (1048576 ≤ length (now memory)) × (4097 ≤ length (now line)) × (65536 ≡ length (now out)) ⌝ }
-    ensures { λ r. ⌜ Kept r × (s .at < r .at) × (r .at ≤ length (now (chunk .entry))) ⌝ }
-{
-    let part = gather(chunk, s.at, line, s.held);
-    let held = part.held;
-    if part.ended {
-        let n = without_cr(line, held);
-        return respond(s, part.end, memory, &line[..n], out);
-    }
-    let mut next = s;
-    next.held = held;
-    next.at = part.end;
-    next
-}
-
-// Answers the lines that end in a chunk.
-fn feed(s: Dialogue, memory: &mut [u8], chunk: &[u8], line: &mut [u8], out: &mut [u8]) -> Dialogue
-    requires { ⌜ Kept s × (1048576 ≤ length (now memory)) × (4097 ≤ length (now line)) × (65536 ≡ length (now out)) ⌝ }
     ensures { λ r. ⌜ Kept r ⌝ }
 {
-    let mut next = s;
-    next.at = 0;
-    while next.at < chunk.len() && next.open {
-        next = step(next, memory, chunk, line, out);
-    }
-    write_out(next, out)
+    let lines = s.lines;
+    answer(s, lines.ended, memory, &line[..n], out)
 }
 
-// At the end of the input a last line without LF counts.
-fn finish(s: Dialogue, memory: &mut [u8], line: &[u8], out: &mut [u8]) -> Dialogue
-    requires { ⌜ Kept s × (1048576 ≤ length (now memory)) × (4097 ≤ length (now line)) × (65536 ≡ length (now out)) ⌝ }
+// Writes the last answers out.
+fn finish(s: Dialogue, out: &[u8]) -> Dialogue
+    requires { ⌜ Kept s × (65536 ≡ length (now out)) ⌝ }
     ensures { λ r. ⌜ Kept r ⌝ }
 {
-    let mut last = s;
-    let held = s.held;
-    if held > 0 {
-        last = write_out(respond(s, 0, memory, &line[..held], out), out);
-    }
+    let mut last = write_out(s, out);
     last.open = false;
     last
 }
 
-// Reads once, and answers the lines that came.
+// Takes a step in the input, and answers a line that ended.
+fn step(
+    s: Dialogue,
+    memory: &mut [u8],
+    chunk: &mut [u8],
+    line: &mut [u8],
+    out: &mut [u8],
+) -> Dialogue
+    requires { ⌜ Kept s × (s .unwritten + 20485 ≤ 65536) × (1048576 ≤ length (now memory)) × (65536 ≡ length (now out)) ⌝ }
+    requires { ⌜ (length (now chunk) ≡ 65536) × (length (now line) ≡ 4097) ⌝ }
+    ensures { λ r. ⌜ Kept r ⌝ }
+{
+    let step = lines::next(STDIN_FILENO, s.lines, chunk, line);
+    let lines = step.lines;
+    let found = step.found;
+    let mut next = s;
+    next.lines = lines;
+    match found {
+        Found::Line => respond(next, memory, line, step.length, out),
+        Found::Nothing => next,
+        Found::End => finish(next, out),
+        Found::Failed(error) => give_up(next, b"read", error),
+    }
+}
+
 fn turn(
     s: Dialogue,
     memory: &mut [u8; MEMORY_BYTES],
+    chunk: &mut [u8; CHUNK_BYTES],
     line: &mut [u8; LINE_BYTES],
     out: &mut [u8; OUT_BYTES],
 ) -> Dialogue
     requires { ⌜ Kept s ⌝ }
     ensures { λ r. ⌜ Kept r ⌝ }
 {
-    let mut chunk = io::large_buffer();
-    let input = stream::read(&mut chunk);
-    if input.error > 0 {
-        return give_up(s, b"read", input.error);
+    let next = with_room(s, out);
+    if !next.open {
+        return next;
     }
-    let n = input.count;
-    if n == 0 {
-        return finish(s, memory, line, out);
-    }
-    feed(s, memory, &chunk[..n], line, out)
+    step(next, memory, chunk, line, out)
 }
 
 fn first(form: Form) -> Dialogue
     ensures { λ r. ⌜ Kept r ⌝ }
 {
     let shell = Shell::new();
+    let lines = lines::first();
     Dialogue {
         shell: shell,
-        lines: 0,
+        lines: lines,
         answered: 0,
-        held: 0,
-        at: 0,
         unwritten: 0,
         open: true,
         form: form,
@@ -247,12 +184,13 @@ fn converse(first: Dialogue)
     requires { ⌜ Kept first ⌝ }
 {
     let mut memory = [0u8; MEMORY_BYTES];
+    let mut chunk = [0u8; CHUNK_BYTES];
     let mut line = [0u8; LINE_BYTES];
     let mut out = [0u8; OUT_BYTES];
     let mut s = first;
     let mut turns = u64::MAX;
     while turns > 0 && s.open {
-        s = turn(s, &mut memory, &mut line, &mut out);
+        s = turn(s, &mut memory, &mut chunk, &mut line, &mut out);
         turns -= 1;
     }
 }

@@ -4,7 +4,14 @@ use Rattle.dialogue.proofs.answer.Statement.{statement}
 use Rattle.dialogue.proofs.answer.Tie as tie
 
 returns : tie.Need-returns
-returns c = (record { ready = search needs; held = search needs; unwritten = search needs }, search needs)
+returns c =
+    record {
+      ready = search needs;
+      lines =
+          c .before .before .before .before .before .before .before .before .before .before
+          .before .before .before .before .before .before .before .before .before .pre .0 .0 .lines;
+      unwritten = search needs;
+    }
 
 pub answer-spec : {M : Type 1} → statement M
 answer-spec =

@@ -5,10 +5,10 @@ use Rattle.dialogue.proofs.converse.Statement.{statement}
 use Rattle.dialogue.proofs.converse.Tie as tie
 
 abbrev Inv-loop : tie.InvT-loop
-Inv-loop memory₀ line₀ out₀ s₀ turns₀ memory line out s turns = Kept s
+Inv-loop memory₀ chunk₀ line₀ out₀ s₀ turns₀ memory chunk line out s turns = Kept s
 
 abbrev μ-loop : tie.MeasureT-loop
-μ-loop memory₀ line₀ out₀ s₀ turns₀ memory line out s turns = turns
+μ-loop memory₀ chunk₀ line₀ out₀ s₀ turns₀ memory chunk line out s turns = turns
 
 pub converse-spec : {M : Type 1} → statement M
 converse-spec =

@@ -1,20 +1,38 @@
--- `dialogue::step` keeps the dialogue: what is held of the line that ended is a line. Assumes nothing.
+-- `dialogue::step` keeps the dialogue: a line that ended lies in its buffer. Assumes nothing.
 use borrow.Author.Needs.{needs}
-use lib.Seq.{length-take-le}
-use mathlib.Core.Path.{sym}
-use Rattle.dialogue.proofs.Prefix.{at-most}
 use Rattle.dialogue.proofs.step.Statement.{statement}
 use Rattle.dialogue.proofs.step.Tie as tie
+
+respond-requires : tie.Need-respond-requires
+respond-requires c κs =
+    let found = c .before .before .before .before .before .before .before .before .before .before in
+    let start = found .before .before .before .before .before .before .before in
+    let kept = start .pre .0 .0 in
+    let read = found .next .ensures in
+    ((record { ready = kept .ready; lines = read .0; unwritten = kept .unwritten }, start .pre .0 .1, read .1, search needs), search needs)
 
 pub step-spec : {M : Type 1} → statement M
 step-spec =
     tie.close
     (tie.spec
     (λ c κs. search needs)
+    (λ c. search needs)
+    respond-requires
+    (λ c. search needs)
+    (λ c. search needs)
     (λ c κs. search needs)
     (λ c. search needs)
-    (λ c. sym (length-take-le _ _ (search needs)))
-    (λ c κs. ((search needs, at-most (c .before .before .before .without-cr .result) _ (search needs)), search needs))
+    (λ c. search needs)
+    (λ c κs. search needs)
+    (λ c. search needs)
+    (λ c. search needs)
+    (λ c. search needs)
+    (λ c. search needs)
+    (λ c. search needs)
+    (λ c. search needs)
+    (λ c. search needs)
+    (λ c. search needs)
+    (λ c. search needs)
     (λ c. search needs)
     (λ c. search needs)
     (λ c. search needs)

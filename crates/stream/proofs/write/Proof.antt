@@ -1,9 +1,9 @@
--- `dialogue::stream::write` writes from inside the text and ends: each try counts down. Assumes nothing.
+-- `stream::write` writes from inside the text and ends: each try counts down. Assumes nothing.
 use borrow.Author.Needs.{needs}
 use Prim.Native.Nat.{_≤_}
 use lib.ListN.{length}
-use Rattle.dialogue.proofs.stream.write.Statement.{statement}
-use Rattle.dialogue.proofs.stream.write.Tie as tie
+use Rattle.stream.proofs.write.Statement.{statement}
+use Rattle.stream.proofs.write.Tie as tie
 
 abbrev Inv-loop : tie.InvT-loop
 Inv-loop text done₀ tries₀ done tries = done ≤ length text

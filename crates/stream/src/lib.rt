@@ -1,15 +1,14 @@
-// Standard input and output. A call that a signal interrupted, or that a non-blocking stream could not make yet, is made
-// again after a short sleep.
+// Reading from a file and writing to standard output. A call that a signal interrupted, or that a non-blocking stream could
+// not make yet, is made again after a short sleep.
 ghost use Prim.Native.Nat.{_≤_};
 ghost use lib.ListN.{length};
 ghost use Rattle.io.specs.Counts.{Counts};
 use libc::EAGAIN;
 use libc::EINTR;
-use libc::STDIN_FILENO;
 use libc::STDOUT_FILENO;
 use libc::types::timespec;
 
-// What was read: how many bytes, 0 at the end of the input, and the number of the error that stopped it, 0 for none.
+// What was read: how many bytes, and the number of the error that stopped it, 0 for none, which `errno` still holds.
 pub struct Input {
     pub count: usize,
     pub error: u64,
@@ -52,13 +51,14 @@ fn fatal(moved: isize) -> u64 {
     0
 }
 
-// Reads once. A proved loop has to end: the tries are counted down, from a number that no run uses up.
-pub fn read(buf: &mut [u8]) -> Input
+// Reads once: 0 bytes at the end of the input. A proved loop has to end: the tries are counted down, from a number that no
+// run uses up.
+pub fn read(fd: i32, buf: &mut [u8]) -> Input
     ensures { λ r. ⌜ Counts (r .count) (now (buf .exit)) ⌝ }
 {
     let mut tries = u64::MAX;
     while tries > 0 {
-        let moved = libc::read(STDIN_FILENO, buf);
+        let moved = libc::read(fd, buf);
         if moved >= 0 {
             return Input {
                 count: io::count(moved, buf),
@@ -80,7 +80,28 @@ pub fn read(buf: &mut [u8]) -> Input
     }
 }
 
-// Writes a text, however many calls that takes, and answers the number of the error that stopped it, 0 for none.
+// Reads until the buffer is full, the input ends or an error stops it, which may be after some bytes.
+pub fn fill(fd: i32, buf: &mut [u8]) -> Input
+    ensures { λ r. ⌜ r .count ≤ length (now (buf .exit)) ⌝ }
+{
+    let mut done: usize = 0;
+    while done < buf.len() {
+        let input = read(fd, &mut buf[done..]);
+        if input.count == 0 {
+            return Input {
+                count: done,
+                error: input.error,
+            };
+        }
+        done += input.count;
+    }
+    Input {
+        count: done,
+        error: 0,
+    }
+}
+
+// Writes a text to standard output, however many calls that takes, and answers the number of the error that stopped it, 0 for none.
 pub fn write(text: &[u8]) -> u64 {
     let mut done: usize = 0;
     let mut tries = u64::MAX;

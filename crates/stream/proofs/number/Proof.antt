@@ -1,4 +1,4 @@
--- `dialogue::stream::number` casts a number above 0 alone, which fits. Assumes nothing.
+-- `stream::number` casts a number above 0 alone, which fits. Assumes nothing.
 use borrow.Author.Needs.{needs}
 use mathlib.Core.Path.{_≡_, sym, subst}
 use mathlib.Core.Bool.{true}
@@ -9,8 +9,8 @@ use lib.Signed.{nonNeg, natAbs-le, ltZ}
 use mir.Syntax.{w32, w64}
 use mir.Val.{Fits, toZ, ofZ}
 use mir.ValLaws.{toZ-ofZ}
-use Rattle.dialogue.proofs.stream.number.Statement.{statement}
-use Rattle.dialogue.proofs.stream.number.Tie as tie
+use Rattle.stream.proofs.number.Statement.{statement}
+use Rattle.stream.proofs.number.Tie as tie
 
 above : (z : ℤ) → ltZ (pos 0) z ≡ true → T (nonNeg z)
 above (pos n) e = tt

@@ -1,15 +1,15 @@
--- `dialogue::stream::read` answers a number of the buffer's bytes and ends: each try counts down. Assumes nothing.
+-- `stream::read` answers a number of the buffer's bytes and ends: each try counts down. Assumes nothing.
 use borrow.Author.Needs.{needs}
 use lib.ListN.{length}
 use mathlib.Core.Path.{_≡_}
-use Rattle.dialogue.proofs.stream.read.Statement.{statement}
-use Rattle.dialogue.proofs.stream.read.Tie as tie
+use Rattle.stream.proofs.read.Statement.{statement}
+use Rattle.stream.proofs.read.Tie as tie
 
 abbrev Inv-loop : tie.InvT-loop
-Inv-loop buf₀ tries₀ buf tries = length buf ≡ length buf₀
+Inv-loop fd buf₀ tries₀ buf tries = length buf ≡ length buf₀
 
 abbrev μ-loop : tie.MeasureT-loop
-μ-loop buf₀ tries₀ buf tries = tries
+μ-loop fd buf₀ tries₀ buf tries = tries
 
 pub read-spec : {M : Type 1} → statement M
 read-spec =

@@ -1,10 +1,10 @@
--- `dialogue::gather` reads on in the chunk and ends: each turn passes a byte. Assumes nothing.
+-- `lines::gather` reads on in the chunk and ends: each turn passes a byte. Assumes nothing.
 use borrow.Author.Needs.{needs}
 use Prim.Native.Nat.{_≤_, _-_}
 use lib.ListN.{length}
 use mathlib.Core.Path.{_≡_}
-use Rattle.dialogue.proofs.gather.Statement.{statement}
-use Rattle.dialogue.proofs.gather.Tie as tie
+use Rattle.lines.proofs.gather.Statement.{statement}
+use Rattle.lines.proofs.gather.Tie as tie
 
 abbrev Inv-loop : tie.InvT-loop
 Inv-loop chunk at line₀ held i₀ n₀ line i n = (at ≤ i) × (i ≤ length chunk) × (n ≤ 4097) × (length line ≡ length line₀)

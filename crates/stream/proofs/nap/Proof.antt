@@ -1,4 +1,4 @@
--- `dialogue::stream::nap` is safe and ends: a walk of its MIR, by hand, since the borrow checker covers no reference to a struct. All that
+-- `stream::nap` is safe and ends: a walk of its MIR, by hand, since the borrow checker covers no reference to a struct. All that
 -- it knows of `nanosleep` is the contract that `libc` assumes of it.
 -- Each struct is lent for a lifetime of its own, which the walk makes before the call and ends after it. Then the struct's memory is back,
 -- at whatever value, and is given up with its local. Assumes nothing.
@@ -52,10 +52,10 @@ use Rattle.libc.proofs.nanosleep as sleep
 use Rattle.libc.proofs.nanosleep.Symbol as sleep-def
 use Rattle.libc.proofs.nanosleep.Symbol.{name as #libc·nanosleep}
 use Rattle.libc.proofs.nanosleep.Met as sleep-thm
-use Rattle.dialogue.proofs.stream.nap.Key.{name as #dialogue·nap}
-use Rattle.dialogue.proofs.stream.nap as nap
-use Rattle.dialogue.proofs.stream.nap.Statement as stated
-use Rattle.dialogue.proofs.stream.nap.Code as code
+use Rattle.stream.proofs.nap.Key.{name as #stream·nap}
+use Rattle.stream.proofs.nap as nap
+use Rattle.stream.proofs.nap.Statement as stated
+use Rattle.stream.proofs.nap.Code as code
 
 -- the structs, and the type of both
 abbrev R : RattleType
@@ -205,7 +205,7 @@ pub nap-spec : {M : Type 1} → stated.statement M
 unfolding code.routine tablesOf
 nap-spec 𝓤 H 𝓜 𝓖 𝓡 =
     entered 𝓤 H (tripleOf 𝓤 H (𝓖 .A) nap.signature (nap.spec 𝓤 H (𝓖 .A) (𝓜 .mem) (𝓡 .run)))
-    (tables 𝓤 H 𝓜 𝓡 code.env .C) (tables 𝓤 H 𝓜 𝓡 code.env .Λ) #dialogue·nap code.function (code.unfolded 𝓤 H 𝓜 𝓡)
+    (tables 𝓤 H 𝓜 𝓡 code.env .C) (tables 𝓤 H 𝓜 𝓡 code.env .Λ) #stream·nap code.function (code.unfolded 𝓤 H 𝓜 𝓡)
     (nap-meets 𝓤 H (𝓖 .A) (givenOf 𝓤 H 𝓜 𝓖) (𝓜 .mem) (𝓡 .run) (tablesOf 𝓤 H 𝓜 (tables 𝓤 H 𝓜 𝓡 code.env))
     (cited 𝓤 H (Sleep 𝓤 H (𝓖 .A) (𝓜 .mem) (𝓡 .run)) 𝓜 𝓡 code.env #libc·nanosleep sleep-def.routine code.calls-libc·nanosleep
     (sleep-thm.met 𝓤 H 𝓜 𝓖 𝓡)))
