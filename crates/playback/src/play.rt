@@ -1,0 +1,165 @@
+// The trace, replayed and told piece by piece. A replay of two traces joined at a record's end is the first replay and then the
+// second (trace Joined.records-join, replay Joined.played-join), so the pieces give what one replay of the whole gives.
+ghost use mathlib.Core.Path.{_≡_};
+ghost use Prim.Native.Nat.{_≤_};
+ghost use lib.ListN.{length};
+ghost use Rattle.shell.specs.Ready.{Ready};
+use replay::replay;
+use report::piece::PIECE_BYTES;
+use report::piece::ROOM_BYTES;
+use report::piece::put_piece;
+use report::summary::Tally;
+use report::summary::put_summary;
+use setup::MEMORY_BYTES;
+use setup::fault::say_at;
+use shell::Shell;
+use stream::Input;
+use trace::RECORD_BYTES;
+
+// The records so far, whether more are left, and whether nothing has stopped it.
+struct Play {
+    shell: Shell,
+    tally: Tally,
+    open: bool,
+    good: bool,
+}
+
+// Replays a piece on the memory that is lent.
+fn replayed(mut shell: Shell, memory: &mut [u8], trace: &[u8], answers: &mut [u8]) -> Shell
+    requires { ⌜ Ready shell × (1048576 ≤ length (now memory)) ⌝ }
+    ensures { λ r. ⌜ Ready r ⌝ }
+{
+    let lent = shell.lent;
+    replay(
+        &mut shell.controller.words,
+        &mut memory[..lent],
+        trace,
+        answers,
+    );
+    shell
+}
+
+// The number of the record that comes after so many and so many more.
+fn after(records: u64, more: u64) -> u64 {
+    std::num::wrapping_add_u64(records, std::num::wrapping_add_u64(more, 1))
+}
+
+// Writes n bytes out, the lines of the records after those that are counted, and answers whether it could.
+fn is_written(out: &[u8], n: usize, records: u64) -> bool
+    requires { ⌜ n ≤ length (now out) ⌝ }
+{
+    if stream::write(&out[..n]) > 0 {
+        say_at(b"playback: standard output, record", after(records, 0));
+        return false;
+    }
+    true
+}
+
+// Replays a piece and tells its records.
+fn tell(s: Play, memory: &mut [u8], trace: &[u8], answers: &mut [u8], out: &mut [u8]) -> Play
+    requires { ⌜ Ready (s .shell) × (1048576 ≤ length (now memory)) × (length (now trace) ≤ 4096) ⌝ }
+    requires { ⌜ (4096 ≡ length (now answers)) × (65536 ≡ length (now out)) ⌝ }
+    ensures { λ r. ⌜ Ready (r .shell) ⌝ }
+{
+    let shell = replayed(s.shell, memory, trace, answers);
+    let tally = s.tally;
+    let told = put_piece(out, tally, trace, answers);
+    let next = told.tally;
+    let written = is_written(out, told.end, tally.records);
+    Play {
+        shell: shell,
+        tally: next,
+        open: s.open,
+        good: s.good & written,
+    }
+}
+
+// How many bytes of the input are taken: where an error stopped it, whole records only.
+fn taken(input: Input) -> usize
+    ensures { λ r. ⌜ r ≤ input .count ⌝ }
+{
+    if input.error > 0 {
+        return input.count - input.count % RECORD_BYTES;
+    }
+    input.count
+}
+
+// Looks at what was read: it goes on where the piece is full.
+fn came(mut s: Play, input: Input) -> Play
+    requires { ⌜ Ready (s .shell) ⌝ }
+    ensures { λ r. ⌜ Ready (r .shell) ⌝ }
+{
+    let tally = s.tally;
+    if input.error > 0 {
+        say_at(
+            b"playback: trace, record",
+            after(tally.records, (input.count / RECORD_BYTES) as u64),
+        );
+        s.good = false;
+        return s;
+    }
+    s.open = input.count == PIECE_BYTES;
+    s
+}
+
+// Reads a piece, and tells its records.
+fn step(
+    s: Play,
+    fd: i32,
+    memory: &mut [u8],
+    trace: &mut [u8],
+    answers: &mut [u8],
+    out: &mut [u8],
+) -> Play
+    requires { ⌜ Ready (s .shell) × (1048576 ≤ length (now memory)) × (length (now trace) ≡ 4096) ⌝ }
+    requires { ⌜ (4096 ≡ length (now answers)) × (65536 ≡ length (now out)) ⌝ }
+    ensures { λ r. ⌜ Ready (r .shell) ⌝ }
+{
+    let input = stream::fill(fd, trace);
+    let next = came(s, input);
+    let n = taken(input);
+    tell(next, memory, &trace[..n], answers, out)
+}
+
+fn turn(
+    s: Play,
+    fd: i32,
+    memory: &mut [u8; MEMORY_BYTES],
+    trace: &mut [u8; PIECE_BYTES],
+    answers: &mut [u8; PIECE_BYTES],
+    out: &mut [u8; ROOM_BYTES],
+) -> Play
+    requires { ⌜ Ready (s .shell) ⌝ }
+    ensures { λ r. ⌜ Ready (r .shell) ⌝ }
+{
+    step(s, fd, memory, trace, answers, out)
+}
+
+fn sum_up(tally: Tally, out: &mut [u8; ROOM_BYTES]) {
+    let n = put_summary(out, tally);
+    is_written(out, n, tally.records);
+}
+
+// Replays the whole trace; the summary is printed where nothing has stopped it. A proved loop has to end: the turns are counted
+// down, from a number that no run uses up.
+pub fn run(shell: Shell, fd: i32, memory: &mut [u8; MEMORY_BYTES])
+    requires { ⌜ Ready shell ⌝ }
+{
+    let mut trace = [0u8; PIECE_BYTES];
+    let mut answers = [0u8; PIECE_BYTES];
+    let mut out = [0u8; ROOM_BYTES];
+    let mut s = Play {
+        shell: shell,
+        tally: Tally::new(),
+        open: true,
+        good: true,
+    };
+    let mut turns = u64::MAX;
+    while turns > 0 && s.open && s.good {
+        s = turn(s, fd, memory, &mut trace, &mut answers, &mut out);
+        turns -= 1;
+    }
+    if s.good {
+        sum_up(s.tally, &mut out);
+    }
+}
