@@ -26,6 +26,10 @@ use Rattle.replay.specs.Replay.{valueOf, resultOf, Done, coming, doneBy,
 
 -- ---- a call's answer in numbers
 
+-- of a call that answers a refusal number
+pub number-is : (n : ℕ) → n ≡ numberOf (ofNumber n)
+number-is n = ⊎-elim (λ (z : n ≡ 0). rw (eq-eqb n 0 z) z) (λ (h : n ≡ 0 → ⊥). rw (ne-eqb n 0 h)) (same-or-not n 0)
+
 module _ (c : Controller) (m : Memory) (x : Call) {d : Controller} {left : Memory} {n r : ℕ} where
   pub answered : {a : Answer} → outcome a d left ≡ perform c m x → (n ≡ numberOf a) × (r ≡ resultOf x a)
       → coming n r d left ≡ doneBy c m (call x)
@@ -39,9 +43,6 @@ module _ (c : Controller) (m : Memory) (x : Call) {d : Controller} {left : Memor
       → coming n r d left ≡ doneBy c m (call x)
   written {k} e (p, q) = answered e (p ∙ number-is k, q ∙ value-is k)
     where
-      number-is : (k : ℕ) → k ≡ numberOf (ofNumber k)
-      number-is k = ⊎-elim (λ (z : k ≡ 0). rw (eq-eqb k 0 z) z) (λ (h : k ≡ 0 → ⊥). rw (ne-eqb k 0 h)) (same-or-not k 0)
-
       value-is : (k : ℕ) → pick (eqb k 0) (valueOf x) 0 ≡ resultOf x (ofNumber k)
       value-is k = ⊎-elim (λ (z : k ≡ 0). rw (eq-eqb k 0 z)) (λ (h : k ≡ 0 → ⊥). rw (ne-eqb k 0 h)) (same-or-not k 0)
 

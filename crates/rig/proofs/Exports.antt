@@ -2,11 +2,9 @@
 use Prim.Native.Nat.{ℕ, _≤_, _<_}
 use mathlib.Core.Bool.{Bool, true, false, not}
 use mathlib.Core.List.{List}
-use mathlib.Core.Logic.{⊎-elim}
-use mathlib.Core.Path.{_≡_, sym, ap, _∙_}
-use borrow.Author.Tests.{eq-eqb, ne-eqb, lt-ltb, le-ltb}
+use mathlib.Core.Path.{_≡_, ap, _∙_}
+use borrow.Author.Tests.{lt-ltb, le-ltb}
 use Rattle.rules.specs.Rules.{settle}
-use Rattle.rules.proofs.Tests.{same-or-not}
 use Rattle.le.specs.Memory.{Memory}
 use Rattle.controller.specs.declared.SubmissionQueue.{SubmissionQueue}
 use Rattle.controller.specs.declared.CompletionQueue.{CompletionQueue}
@@ -17,13 +15,10 @@ use Rattle.controller.specs.Answers.{Answer, numberOf, Outcome, outcome}
 use Rattle.controller.specs.Calls.{ofNumber}
 use Rattle.store.specs.Held.{held, Sound, Holds}
 use Rattle.replay.specs.Replay.{Ended, ended}
+use Rattle.replay.proofs.Playing.{number-is}
 use Rattle.rig.specs.Numbers.{replayNumbers, noSqNumbers, sqNumbers, noCqNumbers, cqNumbers, commandNumbers, bitOf}
 
 -- ---- calls
-
-number-is : (n : ℕ) → numberOf (ofNumber n) ≡ n
-number-is n =
-    ⊎-elim (λ (z : n ≡ 0). rw (eq-eqb n 0 z) (sym z)) (λ (d : n ≡ 0 → ⊥). rw (ne-eqb n 0 d)) (same-or-not n 0)
 
 module _ {a : Answer} {u : List ℕ} {left : Memory} {o : Outcome} (s : Sound u) (e : outcome a (held u) left ≡ o) where
   pub answered : a ≡ o .answer
@@ -38,7 +33,7 @@ module _ {a : Answer} {u : List ℕ} {left : Memory} {o : Outcome} (s : Sound u)
 -- of a call that answers a refusal number
 pub numbered : {n : ℕ} {u : List ℕ} {left : Memory} {o : Outcome} → Sound u → outcome (ofNumber n) (held u) left ≡ o
     → (n ≡ numberOf (o .answer)) × Holds u (o .controller)
-numbered {n} s e = (sym (number-is n) ∙ ap numberOf (answered s e), left-held s e)
+numbered {n} s e = (number-is n ∙ ap numberOf (answered s e), left-held s e)
 
 -- of a replay
 pub replayed : {a : ℕ × ℕ} {u left room : List ℕ} {e : Ended} → Sound u → ended a (held u) left room ≡ e
