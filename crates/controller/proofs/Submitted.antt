@@ -1,17 +1,16 @@
 -- A start takes no more than is submitted, from a queue that exists and is not marked. Assumes nothing.
 use Prim.Native.Nat.{ℕ, _+_, _%_, _≤_, _<_}
 use mathlib.Core.Bool.{true, false, not}
-use mathlib.Core.Logic.{⊎-elim}
 use mathlib.Core.Path.{_≡_, refl}
 use native.Mathlib.Omega.{arith}
 use lib.Dec.{eqb}
 use lib.ListN.{length, set}
 use lib.Seq.{getD-set-same}
 use borrow.Author.Tests.{leb-true}
-use Rattle.rules.proofs.Tests.{and-true, lt-or-ge}
+use Rattle.rules.proofs.Tests.{and-true}
 use Rattle.le.specs.Memory.{Memory}
 use Rattle.ring.specs.Slots.{distance}
-use Rattle.ring.proofs.Steps.{distance-ahead, distance-around}
+use Rattle.ring.proofs.Steps.{distance-other}
 use Rattle.controller.specs.declared.Ring.{Ring}
 use Rattle.controller.specs.Controller.{Controller}
 use Rattle.controller.specs.State.{noSq, sqAt}
@@ -46,10 +45,6 @@ two-submitted id r m e =
     let b = and-true (eqb (entryAt m r (r .head) .fuse) 1) _ (a .1) in
     leb-true 2 _ (and-true _ _ (b .1) .0)
 
--- a ring whose head is not its tail has one
-not-empty : (s a b : ℕ) → a < s → b < s → (a ≡ b → ⊥) → 1 ≤ distance s a b
-not-empty s a b x y n = ⊎-elim (λ l. omega (arith, distance-around s a b l x)) (λ l. omega (arith, distance-ahead s a b l y)) (lt-or-ge b a)
-
 -- ---- what is taken
 
 module _ {c : Controller} (v : Valid c) where
@@ -58,7 +53,7 @@ module _ {c : Controller} (v : Valid c) where
   one-submitted id k =
       let q = candidate-exact c id .0 (k .1) in
       let o = v .sq-ok id (q .0) in
-      not-empty _ _ _ (o .head-below) (o .tail-below) (q .2)
+      distance-other _ _ (o .head-below) _ (o .tail-below) (q .2)
 
   -- n commands are taken from a candidate that has as many submitted
   moved : (d : Controller) (id n : ℕ) → Candidate c id → n ≤ waiting c id → d .sqs ≡ set (c .sqs) id (passed (sqAt c id) n) → Taken c d id n

@@ -16,7 +16,7 @@ use Rattle.entry.proofs.Completions.{Within}
 use Rattle.ring.specs.Slots.{next, distance, phaseAfter}
 use Rattle.ring.specs.Reader.{slotIn, phaseIn, readCount, readSlots, found}
 use Rattle.ring.proofs.Wrap.{Wrapped, low, high, wrapped}
-use Rattle.ring.proofs.Steps.{Step, on, over, step, distance-ahead, distance-around, next-below}
+use Rattle.ring.proofs.Steps.{Step, on, over, step, Distance, ahead, around, distance-is, next-below}
 use Rattle.ring.proofs.Exact.{place, place-zero, place-suc, count-exact}
 use Rattle.ring.proofs.Posting.{postedIn, posted-length, posted-entry, posted-phase, posted-other}
 
@@ -83,17 +83,6 @@ slots-same zero ring ring′ s p l h = refl
 slots-same (suc n) ring ring′ s p l h =
     ap₂ (λ (x : Completion) (y : List Completion). x ∷ y) (ap completionAt (rw (place-zero s p l) at (h 0 (omega arith))))
     (slots-same n ring ring′ s (next s p) (next-below s p (omega arith)) (λ j k. rw (← place-suc s p j) (h (suc j) (omega arith))))
-
--- ---- a distance, as omega takes it
-
-data Distance (s a b d : ℕ) : Type 0 where
-  ahead : a ≤ b → d + a ≡ b → Distance s a b d
-  around : b < a → d + a ≡ b + s → Distance s a b d
-
-distance-is : (s a b : ℕ) → a < s → b < s → Distance s a b (distance s a b)
-distance-is s a b x y =
-    ⊎-elim (λ l. around l (omega (arith, distance-around s a b l x))) (λ l. ahead l (omega (arith, distance-ahead s a b l y)))
-    (lt-or-ge b a)
 
 distance-back : (s a b d : ℕ) → b < s → Distance s a b d → place s a d ≡ b
 distance-back s a b d l (ahead x e) = ap (λ (y : ℕ). y % s) (omega arith) ∙ mod-eq-of-lt l

@@ -5,7 +5,7 @@ use Prim.Native.Nat.{ℕ, _+_, _-_, _%_, _<_, _≤_}
 use native.Mathlib.Omega.{arith}
 use native.Mathlib.Nat.{mod-lt, mod-eq-of-lt, mod-self, add-mod-right}
 use borrow.Author.Tests.{eq-eqb, ne-eqb}
-use Rattle.rules.proofs.Tests.{same-or-not}
+use Rattle.rules.proofs.Tests.{lt-or-ge, same-or-not}
 use Rattle.ring.specs.Slots.{next, distance, phaseAfter}
 
 -- the step from a slot and its phase tag to the next: on, or over the wrap
@@ -48,3 +48,40 @@ module _ (s a b : ℕ) where
   pub distance-around : b < a → a < s → distance s a b ≡ b + s - a
   unfolding distance
   distance-around l h = mod-eq-of-lt (omega arith)
+
+-- the same, as omega takes it
+pub data Distance (s a b d : ℕ) : Type 0 where
+  ahead : a ≤ b → d + a ≡ b → Distance s a b d
+  around : b < a → d + a ≡ b + s → Distance s a b d
+
+pub distance-is : (s a b : ℕ) → a < s → b < s → Distance s a b (distance s a b)
+distance-is s a b x y =
+    ⊎-elim (λ l. around l (omega (arith, distance-around s a b l x))) (λ l. ahead l (omega (arith, distance-ahead s a b l y)))
+    (lt-or-ge b a)
+
+-- a slot is no step from itself, and one step or more from any other
+module _ (s a : ℕ) (h : a < s) where
+  pub distance-self : distance s a a ≡ 0
+  distance-self = distance-ahead s a a (omega arith) h ∙ omega arith
+
+  pub distance-other : (b : ℕ) → b < s → (a ≡ b → ⊥) → 1 ≤ distance s a b
+  distance-other b l n = go (distance-is s a b h l)
+    where
+      go : {d : ℕ} → Distance s a b d → 1 ≤ d
+      go (ahead x e) = omega arith
+      go (around x e) = omega arith
+
+-- where b lies no farther from a than c, the way from a to c leads over b
+module _ (s a b c : ℕ) (x : a < s) (y : b < s) (z : c < s) where
+  over-it : {d e k : ℕ} → Distance s a b d → Distance s a c e → Distance s b c k → d ≤ e → e ≡ d + k
+  over-it (ahead f p) (ahead g q) (ahead i r) l = omega arith
+  over-it (ahead f p) (ahead g q) (around i r) l = omega arith
+  over-it (ahead f p) (around g q) (ahead i r) l = omega arith
+  over-it (ahead f p) (around g q) (around i r) l = omega arith
+  over-it (around f p) (ahead g q) (ahead i r) l = omega arith
+  over-it (around f p) (ahead g q) (around i r) l = omega arith
+  over-it (around f p) (around g q) (ahead i r) l = omega arith
+  over-it (around f p) (around g q) (around i r) l = omega arith
+
+  pub distance-over : distance s a b ≤ distance s a c → distance s a c ≡ distance s a b + distance s b c
+  distance-over = over-it (distance-is s a b x y) (distance-is s a c x z) (distance-is s b c y z)
