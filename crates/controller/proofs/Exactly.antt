@@ -238,7 +238,7 @@ module _ {c : Controller} (r : Reachable c) (m : Memory) (id v : ℕ) where
       (((TailValue (k .size) (k .head) (k .tail) v → ⊥), 10) ∷ []) tt
       (refl, says-lt 15 id, λ a. (refl, says-not (says-is (k .exists)), λ b. (refl, says-is (q .marked), λ d. tt)))
       (λ o. let h = valid r .sq-ok id (says-sure (says-is (k .exists)) (o .1 .0)) in
-      last-row _ _ (says-tail (k .size) (k .head) (k .tail) v (h .head-below)) refl refl)
+      last-row _ _ (says-tail (k .size) (k .head) (k .tail) v (h .head-below) (h .tail-below)) refl refl)
 
   pub head-write : Decided (headReasons c id v) (number (perform c m (headWrite id v)))
   unfolding doorbell.headWrite doorbell.headRefusal
@@ -252,7 +252,7 @@ module _ {c : Controller} (r : Reachable c) (m : Memory) (id v : ℕ) where
           says-not (says-is (k .exists)),
           λ b.
               let h = valid r .cq-ok id (says-sure (says-is (k .exists)) b) in
-              (refl, says-not (says-head (k .size) (k .head) (k .tail) v (h .head-below)), λ d. tt),
+              (refl, says-not (says-head (k .size) (k .head) (k .tail) v (h .head-below) (h .tail-below)), λ d. tt),
         ),
       )
       (λ o. refl)

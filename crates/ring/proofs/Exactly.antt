@@ -4,18 +4,19 @@ use mathlib.Core.Bool.{Bool, not}
 use mathlib.Core.List.{List, [], _∷_, _++_}
 use mathlib.Core.Logic.{_⊎_, ⊎-elim}
 use mathlib.Core.Path.{_≡_, refl, sym, ap, _∙_}
-use native.Mathlib.Nat.{mod-lt, mod-eq-of-lt, add-mod-right}
+use native.Mathlib.Nat.{mod-lt, mod-eq-of-lt, mod-add-mod, add-mod-right}
 use native.Mathlib.Omega.{arith}
 use lib.Dec.{eqb}
 use lib.ListN.{length}
 use Rattle.rules.proofs.Tests.{lt-or-ge}
 use Rattle.rules.proofs.Cases.{pick-cases, settle-cases}
-use Rattle.rules.proofs.Exactly.{Says, says-lt, says-le, says-eq, says-not, says-as, says-and, says-outside, Reasons, Decided, decided}
+use Rattle.rules.proofs.Exactly.{Says, says-is, says-lt, says-le, says-eq, says-not, says-as, says-outside, Reasons, Decided, decided}
 use Rattle.ring.specs.Slots.{next, distance, phaseAfter}
 use Rattle.ring.specs.Doorbell.{validTail, validHead, placeRules, checked, tailCheck, headCheck}
 use Rattle.ring.specs.Reader.{phaseIn, readCount, readerRules, readerRefusal, waitingAnswer, ringRead}
 use Rattle.ring.proofs.Wrap.{Wrapped, low, high, wrapped}
-use Rattle.ring.proofs.Steps.{distance-ahead, distance-around, next-on, next-over}
+use Rattle.ring.proofs.Steps.{distance-ahead, distance-around, distance-self, next-on, next-over}
+use Rattle.ring.proofs.Doorbells.{valid-tail, valid-head, tail-adds, head-releases}
 
 -- ---- the distance of b from a is the number of steps that lead from a to b
 
@@ -59,29 +60,56 @@ says-full s h t x y =
 -- ---- valid doorbell values
 
 module _ (size head tail v : ℕ) where
-  -- a tail value after which k entries are submitted, no fewer than before
+  -- a tail value by which k entries more are submitted, at least one, and then no more than size - 1 in all
   abbrev pub TailValue : Type 0
-  TailValue = (k : ℕ) × (k < size) × (distance size head tail ≤ k) × (v ≡ (head + k) % size)
+  TailValue = (k : ℕ) × (1 ≤ k) × (distance size head tail + k < size) × (v ≡ (tail + k) % size)
 
-  -- a head value by which k of the entries posted are released
+  -- a head value by which k of the entries posted are released, at least one
   abbrev pub HeadValue : Type 0
-  HeadValue = (k : ℕ) × (k ≤ distance size head tail) × (v ≡ (head + k) % size)
+  HeadValue = (k : ℕ) × (1 ≤ k) × (k ≤ distance size head tail) × (v ≡ (head + k) % size)
 
-  module _ (h : head < size) where
+  module _ (h : head < size) (t : tail < size) where
+    -- the slot k steps after the tail lies so much farther from the head
+    farther : (k : ℕ) → distance size head tail + k < size → distance size head ((tail + k) % size) ≡ distance size head tail + k
+    farther k l =
+        let d = distance size head tail in
+        let e : (tail + k) % size ≡ (head + (d + k)) % size =
+        ap (λ (x : ℕ). (x + k) % size) (sym (steps-lead size head h tail t)) ∙ mod-add-mod (head + d) size k
+        ∙ ap (λ (x : ℕ). x % size) (omega arith) in
+        ap (distance size head) e ∙ steps-are size head h (d + k) l
+
     pub says-tail : Says (validTail size head tail v) TailValue
-    unfolding validTail
     says-tail =
-        says-as (says-and (says-lt v size) (says-le (distance size head tail) (distance size head v)))
-        (λ p. (distance size head v, distance-below size head h v, p .1, sym (steps-lead size head h v (p .0))))
-        (λ p. (rw (p .3) (mod-lt (head + p .0) (omega arith)), rw (p .3, steps-are size head h (p .0) (p .1)) (p .2)))
+        says-as (says-is (validTail size head tail v))
+        (λ e. let a = tail-adds size head tail v h t e in (
+          distance size tail v,
+          a .0,
+          omega (arith, a .1, distance-below size head h v),
+          sym (steps-lead size tail t v (valid-tail size head tail v .0 e .0)),
+        ))
+        (λ p. let f = farther (p .0) (p .2) in
+        let g = steps-are size tail t (p .0) (omega (arith, p .2)) in
+        valid-tail size head tail v .1 (rw (p .3) (
+          mod-lt (tail + p .0) (omega arith),
+          omega (arith, f),
+          λ e. omega (arith, p .1, g, ap (distance size tail) e, distance-self size tail t),
+        )))
 
     pub says-head : Says (validHead size head tail v) HeadValue
-    unfolding validHead
     says-head =
-        says-as (says-and (says-lt v size) (says-le (distance size head v) (distance size head tail)))
-        (λ p. (distance size head v, p .1, sym (steps-lead size head h v (p .0))))
-        (λ p. let l = distance-below size head h tail in
-        (rw (p .2) (mod-lt (head + p .0) (omega arith)), rw (p .2, steps-are size head h (p .0) (omega arith)) (p .1)))
+        says-as (says-is (validHead size head tail v))
+        (λ e. let a = head-releases size head tail v h t e in (
+          distance size head v,
+          a .0,
+          omega (arith, a .1),
+          sym (steps-lead size head h v (valid-head size head tail v .0 e .0)),
+        ))
+        (λ p. let g = steps-are size head h (p .0) (omega (arith, p .2, distance-below size head h tail)) in
+        valid-head size head tail v .1 (rw (p .3) (
+          mod-lt (head + p .0) (omega arith),
+          omega (arith, g, p .2),
+          λ e. omega (arith, p .1, g, ap (distance size head) e, distance-self size head h),
+        )))
 
 -- ---- refusals
 
@@ -93,7 +121,7 @@ WrongSize size = (size < 2) ⊎ (1024 < size)
 abbrev pub checkReasons : ℕ → ℕ → ℕ → Type 0 → Reasons
 checkReasons size head tail Valid = (WrongSize size, 3) ∷ (size ≤ head, 10) ∷ (size ≤ tail, 10) ∷ ((Valid → ⊥), 10) ∷ []
 
-check : (size head tail : ℕ) {valid : Bool} {P : Type 0} → (head < size → Says valid P)
+check : (size head tail : ℕ) {valid : Bool} {P : Type 0} → (head < size → tail < size → Says valid P)
     → Decided (checkReasons size head tail P) (checked size head tail valid)
 unfolding checked
 check size head tail {valid} {P} s =
@@ -106,7 +134,7 @@ check size head tail {valid} {P} s =
         λ b. (
           refl,
           says-le size tail,
-          λ c. (refl, says-not (s (omega (arith, b))), λ d. tt),
+          λ c. (refl, says-not (s (omega (arith, b)) (omega (arith, c))), λ d. tt),
         ),
       ),
     )

@@ -5,7 +5,7 @@ ghost use Rattle.ring.specs.Doorbell.{validTail, validHead, placeRefusal
 use crate::slots::distance_in;
 use crate::slots::wrong_size;
 
-// Whether a tail value is valid on a ring in order.
+// Whether a tail value is valid on a ring in order: it moves the tail, and not past the head.
 pub fn valid_tail(size: u64, head: u64, tail: u64, value: u64) -> bool
     requires { ⌜ (head < size) × (tail < size) × (size ≤ 1024) ⌝ }
     ensures { λ r. ⌜ r ≡ validTail size head tail value ⌝ }
@@ -13,10 +13,10 @@ pub fn valid_tail(size: u64, head: u64, tail: u64, value: u64) -> bool
     if size <= value {
         return false;
     }
-    distance_in(size, head, tail) <= distance_in(size, head, value)
+    distance_in(size, head, tail) < distance_in(size, head, value)
 }
 
-// Whether a head value is valid on a ring in order.
+// Whether a head value is valid on a ring in order: it moves the head, and not past the tail.
 pub fn valid_head(size: u64, head: u64, tail: u64, value: u64) -> bool
     requires { ⌜ (head < size) × (tail < size) × (size ≤ 1024) ⌝ }
     ensures { λ r. ⌜ r ≡ validHead size head tail value ⌝ }
@@ -24,7 +24,8 @@ pub fn valid_head(size: u64, head: u64, tail: u64, value: u64) -> bool
     if size <= value {
         return false;
     }
-    distance_in(size, head, value) <= distance_in(size, head, tail)
+    let steps = distance_in(size, head, value);
+    (0 < steps) & (steps <= distance_in(size, head, tail))
 }
 
 // What is wrong with the numbers of a ring: 0, or the refusal number.

@@ -63,6 +63,13 @@ module _ {a : Bool} {P : Type 0} (s : Says a P) where
         go true u = record { yes = λ e. inl (u .yes refl); no = λ e. absurd (clash refl e) }
         go false u = record { yes = λ e. inr (t .yes e); no = λ e. ⊎-elim (u .no refl) (t .no e) }
 
+-- two tests that say the same have the same value
+pub says-same : {a b : Bool} {P : Type 0} → Says a P → Says b P → a ≡ b
+says-same {a} {b} s t =
+    ⊎-elim (λ e. e ∙ sym (says-iff t .1 (s .yes e)))
+    (λ e. e ∙ sym (⊎-elim (λ f. absurd (s .no e (t .yes f))) (λ f. f) (bool-cases b)))
+    (bool-cases a)
+
 pub says-pick : (t : Bool) {a b : Bool} {P A B : Type 0} → Says t P → Says a A → Says b B → Says (pick t a b) ((P × A) ⊎ ((P → ⊥) × B))
 says-pick true s u w =
     record { yes = λ e. inl (s .yes refl, u .yes e); no = λ e. ⊎-elim (λ h. u .no e (h .1)) (λ h. h .0 (s .yes refl)) }

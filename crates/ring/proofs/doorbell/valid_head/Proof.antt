@@ -1,16 +1,18 @@
 use borrow.Author.Needs.{needs}
-use borrow.Author.Tests.{lt-ltb, le-ltb}
-use Rattle.ring.specs.Doorbell.{validHead}
+use Rattle.ring.proofs.Doorbells.{head-beyond, head-steps}
 use Rattle.ring.proofs.doorbell.valid_head.Statement.{statement}
 use Rattle.ring.proofs.doorbell.valid_head.Tie as tie
 
 returns : tie.Need-returns
-unfolding validHead
-returns c = simp (le-ltb _ _ (c .if1 .taken))
+returns c = let a = c .before .args in head-beyond (a .size) (a .head) (a .tail) (a .value) (c .if1 .taken)
 
 returns-2 : tie.Need-returns-2
-unfolding validHead
-returns-2 c = simp (lt-ltb _ _ (c .before .before .if1 .left)) (cc)
+returns-2 c =
+    let e = c .before .before in
+    let s = e .before in
+    let a = s .args in
+    rw (c .before .distance-in .ensures, c .distance-in2 .ensures)
+    (head-steps (a .size) (a .head) (a .tail) (a .value) (s .pre .0) (s .pre .1) (e .if1 .left))
 
 pub valid-head-spec : {M : Type 1} → statement M
 valid-head-spec =
