@@ -22,6 +22,7 @@ pub mod BookedStart
 pub mod BookedFinish
 pub mod Demand
 pub mod Unread
+pub mod Doorbells
 pub mod Undisturbed
 pub mod ThreePasses
 pub mod HostWrites

@@ -26,7 +26,7 @@ pub record Marked (c : Controller) (call : Call) (n : ℕ) (left : Controller) :
 ten : {n : ℕ} → refused 10 ≡ refused n → n ≡ 10
 ten e = cc
 
-done-not : {n : ℕ} → done ≡ refused n → ⊥
+pub done-not : {n : ℕ} → done ≡ refused n → ⊥
 done-not e = let z : _≡_ {A = ℕ} 0 1 = cc in omega arith
 
 started-not : {n : ℕ} {s : StartAnswer} → started s ≡ refused n → ⊥
