@@ -83,7 +83,8 @@
  *             phase = 1 - phase;
  *         }
  *     }
- *     bellrafter_head_write(state, 1, head);   // released
+ *     if (waiting.count > 0)                   // released; a write of the value held would be refused
+ *         bellrafter_head_write(state, 1, head);
  *
  * In C++ too, write the word `struct` before the name of an answer: bellrafter_start, bellrafter_finish and
  * bellrafter_replay each name a call and its answer.
@@ -99,8 +100,8 @@ extern "C" {
 #endif
 
 #define BELLRAFTER_VERSION_MAJOR 1
-#define BELLRAFTER_VERSION_MINOR 2
-#define BELLRAFTER_VERSION "1.2"
+#define BELLRAFTER_VERSION_MINOR 3
+#define BELLRAFTER_VERSION "1.3"
 
 /* The limits. */
 #define BELLRAFTER_STATE_WORDS 558      /* words of a controller's state */
@@ -142,8 +143,8 @@ enum bellrafter_refusal {
     BELLRAFTER_CLASS = 8,
     /* The queue does not exist: tail_write, head_write, look_sq, look_cq. */
     BELLRAFTER_NO_QUEUE = 9,
-    /* The doorbell value is invalid: tail_write, head_write, tail_check, head_check. Also, a head or tail is not below
-       the size: ring_read (which takes a head alone), tail_check, head_check. */
+    /* The doorbell value is invalid, as the one held is: tail_write, head_write, tail_check, head_check. Also, a head
+       or tail is not below the size: ring_read (which takes a head alone), tail_check, head_check. */
     BELLRAFTER_DOORBELL = 10,
     /* The submission queue is marked, by an earlier tail value that was refused: tail_write. */
     BELLRAFTER_MARKED = 11,
@@ -405,8 +406,9 @@ uint64_t bellrafter_create_sq(uint64_t *state, const uint8_t *memory, size_t mem
 
 /*
  * The host writes `value` to the tail doorbell of submission queue `id`. bellrafter_tail_check says which values are
- * valid. An invalid one marks the queue for good: it takes no more tail writes and starts no more commands; started
- * ones may finish.
+ * valid; the one held is not, which is the queue's tail: the last value accepted, 0 in a new queue. An invalid value,
+ * the one held like any other, marks the queue for good: it takes no more tail writes and starts no more commands;
+ * started ones may finish.
  *
  * Answers the refusal number. In order: BELLRAFTER_QUEUE_ID; BELLRAFTER_NO_QUEUE; BELLRAFTER_MARKED, for any value;
  * BELLRAFTER_DOORBELL, which marks.
@@ -415,7 +417,8 @@ uint64_t bellrafter_tail_write(uint64_t *state, uint64_t id, uint64_t value);
 
 /*
  * The host writes `value` to the head doorbell of completion queue `id`. bellrafter_head_check says which values are
- * valid. An invalid one marks nothing.
+ * valid; the one held is not, which is the queue's head: the last value accepted, 0 in a new queue. An invalid value
+ * marks nothing and does not count: the value held stays.
  *
  * Answers the refusal number. In order: BELLRAFTER_QUEUE_ID; BELLRAFTER_NO_QUEUE; BELLRAFTER_DOORBELL.
  */
@@ -482,7 +485,8 @@ struct bellrafter_finish bellrafter_finish(uint64_t *state, uint8_t *memory, siz
  * The refusal number of an answer record is, in order: BELLRAFTER_RECORD_SHORT if the trace ends before the record
  * does, whatever is in it; BELLRAFTER_RECORD if byte 0 is none of the four or a spare byte is not 0; that of the call.
  * With the first two no call is made, and the record changes nothing. After any other refusal than the first the
- * replay goes on with the next record.
+ * replay goes on with the next record. A trace that writes a doorbell's value again, with no other between, has that
+ * write refused, and the queue marked if it is a tail's.
  *
  * An example, with four bytes of each record, behind which twelve zeros stand. SQ 1 and CQ 1 are new, of 4 entries, and
  * an ordinary command lies in slot 0 of SQ 1:
@@ -643,8 +647,8 @@ struct bellrafter_waiting bellrafter_ring_read(const uint8_t *ring, size_t ring_
  * Checks the value that a host writes to a submission queue's tail doorbell, for a ring of `size` entries that stands
  * at `head` and `tail`.
  *
- * The value is valid if it is below the size and its distance from the head, modulo the size, is no less than the old
- * tail's: the tail moves forward and never past the head. The value already held is valid.
+ * The value is valid if it is below the size and its distance from the head, modulo the size, is more than the old
+ * tail's: the tail moves forward and never past the head. The value held, which is `tail`, is not valid.
  *
  * Answers the refusal number. In order: BELLRAFTER_RING_SIZE; BELLRAFTER_DOORBELL if `head` or `tail` is not below
  * `size` or the value is not valid.
@@ -655,8 +659,8 @@ uint64_t bellrafter_tail_check(uint64_t size, uint64_t head, uint64_t tail, uint
  * Checks the value that a host writes to a completion queue's head doorbell, for a ring of `size` entries that stands
  * at `head` and `tail`.
  *
- * The value is valid if it is below the size and its distance from the old head, modulo the size, is no more than
- * the tail's: the head moves forward and never past the tail. The value already held is valid.
+ * The value is valid if it is below the size and its distance from the old head, modulo the size, is at least 1 and no
+ * more than the tail's: the head moves forward and never past the tail. The value held, which is `head`, is not valid.
  *
  * Answers the refusal number, in the order of bellrafter_tail_check.
  */
