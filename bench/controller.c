@@ -146,7 +146,7 @@ unsigned tail_write(struct controller *c, uint64_t id, uint64_t value)
         return 9;
     if (q->marked)
         return 11;
-    if (value >= r->size || distance(r, r->head, value) < distance(r, r->head, r->tail)) {
+    if (value >= r->size || distance(r, r->head, value) <= distance(r, r->head, r->tail)) {
         q->marked = true;
         return 10;
     }
@@ -161,7 +161,7 @@ unsigned head_write(struct controller *c, uint64_t id, uint64_t value)
     struct ring *r = &c->cqs[id].ring;
     if (!r->exists)
         return 9;
-    if (value >= r->size || distance(r, r->head, value) > distance(r, r->head, r->tail))
+    if (value >= r->size || value == r->head || distance(r, r->head, value) > distance(r, r->head, r->tail))
         return 10;
     r->head = value;
     return 0;

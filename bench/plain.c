@@ -113,7 +113,7 @@ uint64_t plain_tail_check(uint64_t size, uint64_t head, uint64_t tail, uint64_t 
 {
     if (size < 2 || size > 1024)
         return BELLRAFTER_RING_SIZE;
-    if (head >= size || tail >= size || value >= size || distance(size, head, value) < distance(size, head, tail))
+    if (head >= size || tail >= size || value >= size || distance(size, head, value) <= distance(size, head, tail))
         return BELLRAFTER_DOORBELL;
     return BELLRAFTER_DONE;
 }
@@ -122,7 +122,8 @@ uint64_t plain_head_check(uint64_t size, uint64_t head, uint64_t tail, uint64_t 
 {
     if (size < 2 || size > 1024)
         return BELLRAFTER_RING_SIZE;
-    if (head >= size || tail >= size || value >= size || distance(size, head, value) > distance(size, head, tail))
+    if (head >= size || tail >= size || value >= size || value == head ||
+        distance(size, head, value) > distance(size, head, tail))
         return BELLRAFTER_DOORBELL;
     return BELLRAFTER_DONE;
 }

@@ -126,11 +126,15 @@ static uint64_t distance(uint64_t size, uint64_t from, uint64_t to)
     return (to + size - from) % size;
 }
 
+/* "a write of the value held is refused with 10 on either doorbell, in the plain checks too" */
+
 uint64_t ref_tail_check(uint64_t size, uint64_t head, uint64_t tail, uint64_t value)
 {
     if (size_wrong(size))
         return BELLRAFTER_RING_SIZE;
     if (head >= size || tail >= size || value >= size || distance(size, head, value) < distance(size, head, tail))
+        return BELLRAFTER_DOORBELL;
+    if (value == tail)
         return BELLRAFTER_DOORBELL;
     return BELLRAFTER_DONE;
 }
@@ -140,6 +144,8 @@ uint64_t ref_head_check(uint64_t size, uint64_t head, uint64_t tail, uint64_t va
     if (size_wrong(size))
         return BELLRAFTER_RING_SIZE;
     if (head >= size || tail >= size || value >= size || distance(size, head, value) > distance(size, head, tail))
+        return BELLRAFTER_DOORBELL;
+    if (value == head)
         return BELLRAFTER_DOORBELL;
     return BELLRAFTER_DONE;
 }
