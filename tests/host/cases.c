@@ -184,22 +184,30 @@ static void either_doorbell(const char *name, doorbell_check *check)
     doorbell(name, check, 4, 0, TOP, 0, BELLRAFTER_DOORBELL);
     doorbell(name, check, 4, 0, 0, TOP, BELLRAFTER_DOORBELL);
     doorbell(name, check, 4, TOP, TOP, TOP, BELLRAFTER_DOORBELL);
-    doorbell(name, check, 1024, 0, 1023, 1023, BELLRAFTER_DONE);
+    doorbell(name, check, 1024, 1023, 1023, 1023, BELLRAFTER_DOORBELL); /* the value held */
     doorbell(name, check, 1024, 1023, 1023, 1024, BELLRAFTER_DOORBELL);
 }
 
 static void doorbell_cases(void)
 {
-    values("tail P4", bellrafter_tail_check, 4, 0, 3, 0x8);
-    values("tail P5", bellrafter_tail_check, 4, 2, 3, 0xB);
-    values("tail, empty", bellrafter_tail_check, 4, 1, 1, 0xF);
-    values("tail, wrapped", bellrafter_tail_check, 4, 3, 1, 0x6);
-    values("tail, size 2", bellrafter_tail_check, 2, 1, 0, 0x1);
-    values("head, full", bellrafter_head_check, 4, 0, 3, 0xF);
-    values("head, one", bellrafter_head_check, 4, 2, 3, 0xC);
-    values("head, empty", bellrafter_head_check, 4, 1, 1, 0x2);
-    values("head, wrapped", bellrafter_head_check, 4, 3, 1, 0xB);
-    values("head, size 2", bellrafter_head_check, 2, 1, 0, 0x3);
+    values("tail P4", bellrafter_tail_check, 4, 0, 3, 0);
+    values("tail P5", bellrafter_tail_check, 4, 2, 3, 0x3);
+    values("tail, new", bellrafter_tail_check, 4, 0, 0, 0xE);
+    values("tail, empty", bellrafter_tail_check, 4, 1, 1, 0xD);
+    values("tail, wrapped", bellrafter_tail_check, 4, 3, 1, 0x4);
+    values("tail, size 2, full", bellrafter_tail_check, 2, 1, 0, 0);
+    values("tail, size 2, empty", bellrafter_tail_check, 2, 1, 1, 0x1);
+    values("head, new", bellrafter_head_check, 4, 0, 0, 0);
+    values("head, full", bellrafter_head_check, 4, 0, 3, 0xE);
+    values("head, one", bellrafter_head_check, 4, 2, 3, 0x8);
+    values("head, empty", bellrafter_head_check, 4, 1, 1, 0);
+    values("head, wrapped", bellrafter_head_check, 4, 3, 1, 0x3);
+    values("head, size 2, full", bellrafter_head_check, 2, 1, 0, 0x1);
+    values("head, size 2, empty", bellrafter_head_check, 2, 1, 1, 0);
+    doorbell("tail", bellrafter_tail_check, 1024, 0, 1022, 1023, BELLRAFTER_DONE);
+    doorbell("tail", bellrafter_tail_check, 1024, 0, 1023, 1023, BELLRAFTER_DOORBELL);
+    doorbell("head", bellrafter_head_check, 1024, 0, 1023, 1023, BELLRAFTER_DONE);
+    doorbell("head", bellrafter_head_check, 1024, 0, 1023, 0, BELLRAFTER_DOORBELL);
     either_doorbell("tail", bellrafter_tail_check);
     either_doorbell("head", bellrafter_head_check);
 }

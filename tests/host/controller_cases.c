@@ -325,13 +325,17 @@ static void create_cases(void)
     }
 }
 
-/* Doorbells. SQ 1 of 4 entries at head 0 and tail 3, SQ 2 at head 2 and tail 3, SQ 3 marked; CQ 1 at head 0, tail 2. */
+/*
+ * Doorbells. SQ 1 of 4 entries at head 0 and tail 3, SQ 2 at head 2 and tail 3, SQ 3 marked, SQ 5 new; CQ 1 at head 0
+ * and tail 2, CQ 0 new.
+ */
 
 static void doorbells(void)
 {
     fresh(0, 7, 4);
     for (uint64_t id = 1; id <= 3; id++)
         make_sq(id, 4, 0);
+    make_sq(5, 4, 0);
     for (uint64_t cid = 0; cid < 3; cid++)
         submit_plain(2, cid);
     twin_start(M);
@@ -352,11 +356,14 @@ static const struct {
     {"tail P4, write 0", 1, 0, BELLRAFTER_DOORBELL},
     {"tail at P4, write 1", 1, 1, BELLRAFTER_DOORBELL},
     {"tail at P4, write 2", 1, 2, BELLRAFTER_DOORBELL},
-    {"tail at P4, write 3, held already", 1, 3, 0},
+    {"tail at P4, write 3, the value held", 1, 3, BELLRAFTER_DOORBELL},
     {"tail P5, write 1", 2, 1, 0},
     {"tail P5, write 2", 2, 2, BELLRAFTER_DOORBELL},
     {"tail at P5, write 0", 2, 0, 0},
-    {"tail at P5, write 3, held already", 2, 3, 0},
+    {"tail at P5, write 3, the value held", 2, 3, BELLRAFTER_DOORBELL},
+    {"tail of a new SQ, write 0, the value held", 5, 0, BELLRAFTER_DOORBELL},
+    {"tail of a new SQ, write 1", 5, 1, 0},
+    {"tail of a new SQ, write 3", 5, 3, 0},
     {"tail, write 2^16 + 1", 2, 65537, BELLRAFTER_DOORBELL},
     {"tail, write 2^64 - 1", 2, TOP, BELLRAFTER_DOORBELL},
     {"tail of SQ 16", 16, 0, BELLRAFTER_QUEUE_ID},
@@ -365,7 +372,7 @@ static const struct {
     {"tail of no SQ", 4, 0, BELLRAFTER_NO_QUEUE},
     {"tail, 9 before 10", 0, TOP, BELLRAFTER_NO_QUEUE},
     {"tail of a marked SQ", 3, 1, BELLRAFTER_MARKED},
-    {"tail of a marked SQ, held already", 3, 0, BELLRAFTER_MARKED},
+    {"tail of a marked SQ, the value held", 3, 0, BELLRAFTER_MARKED},
     {"tail, 11 before 10", 3, 4, BELLRAFTER_MARKED},
 };
 
@@ -373,15 +380,15 @@ static const struct {
     const char *what;
     uint64_t id, value, refusal;
 } head_cases[] = {
-    {"head, held already", 1, 0, 0},
+    {"head, the value held", 1, 0, BELLRAFTER_DOORBELL},
     {"head, one", 1, 1, 0},
     {"head, all", 1, 2, 0},
     {"head past the tail", 1, 3, BELLRAFTER_DOORBELL},
     {"head at the size", 1, 4, BELLRAFTER_DOORBELL},
     {"head 2^16", 1, 65536, BELLRAFTER_DOORBELL},
     {"head 2^64 - 1", 1, TOP, BELLRAFTER_DOORBELL},
-    {"head of an empty CQ", 0, 0, 0},
-    {"head past the tail of an empty CQ", 0, 1, BELLRAFTER_DOORBELL},
+    {"head of a new CQ, write 0, the value held", 0, 0, BELLRAFTER_DOORBELL},
+    {"head past the tail of a new CQ", 0, 1, BELLRAFTER_DOORBELL},
     {"head of CQ 16", 16, 0, BELLRAFTER_QUEUE_ID},
     {"head of CQ 2^32 + 1", ((uint64_t)1 << 32) + 1, 0, BELLRAFTER_QUEUE_ID},
     {"head, 1 before 10", TOP, TOP, BELLRAFTER_QUEUE_ID},
@@ -402,16 +409,53 @@ static void doorbell_write_cases(void)
     }
     for (size_t i = 0; i < COUNT_OF(head_cases); i++) {
         go_back(&here);
-        uint64_t head = head_cases[i].id < 16 ? plain.cqs[head_cases[i].id].head : 0;
         want(head_cases[i].what, head_cases[i].refusal, twin_head(head_cases[i].id, head_cases[i].value));
         look_at_all();
-        if (head_cases[i].refusal == BELLRAFTER_DOORBELL)
-            want("a bad head marks nothing", 0, twin_head(head_cases[i].id, head));
+        if (head_cases[i].refusal != 0)
+            compare_saved(&here);
     }
     go_back(&here);
     want("marking", BELLRAFTER_DOORBELL, twin_tail(2, 2));
     want("marking", BELLRAFTER_DOORBELL, twin_tail(1, 0));
     refused_start("marked SQs start nothing", M, BELLRAFTER_NO_CANDIDATE);
+}
+
+/* The value held is the last one accepted, 0 at first: it cannot be written again, and refused writes do not count. */
+static void held_cases(void)
+{
+    fresh(0, 0, 4);
+    make_sq(1, 4, 0);
+    make_sq(2, 4, 0);
+    for (uint64_t cid = 0; cid < 3; cid++)
+        submit_plain(1, cid);
+    want_start("start", (struct bellrafter_start){0, 1, 1, 0, 0, 0, 0}, M);
+    want_start("start", (struct bellrafter_start){0, 1, 1, 1, 0, 1, 0}, M);
+    want_finish("posting", M, 0, 0, 0, 0);
+
+    want("head 0, never written", BELLRAFTER_DOORBELL, twin_head(1, 0));
+    want("head 2, past the tail", BELLRAFTER_DOORBELL, twin_head(1, 2));
+    want("head 0, after a refused write", BELLRAFTER_DOORBELL, twin_head(1, 0));
+    want("head 1, after refused writes", 0, twin_head(1, 1));
+    want("head 1 again", BELLRAFTER_DOORBELL, twin_head(1, 1));
+    want("head 1 a third time", BELLRAFTER_DOORBELL, twin_head(1, 1));
+    want_finish("posting", M, 1, 0, 0, 1);
+    want("head 1 again, with one waiting", BELLRAFTER_DOORBELL, twin_head(1, 1));
+    want("head 2, refused before", 0, twin_head(1, 2));
+
+    want("tail 0 of a new SQ", BELLRAFTER_DOORBELL, twin_tail(2, 0));
+    want("tail 1, marked by tail 0", BELLRAFTER_MARKED, twin_tail(2, 1));
+    want("tail 0 again, 11 before 10", BELLRAFTER_MARKED, twin_tail(2, 0));
+    save_twin(&here);
+    want("tail 0, held no longer", 0, twin_tail(1, 0));
+    want("tail 0 again", BELLRAFTER_DOORBELL, twin_tail(1, 0));
+    go_back(&here);
+    want("tail 3 again, one waiting", BELLRAFTER_DOORBELL, twin_tail(1, 3));
+    refused_start("marked by the value held, starts nothing", M, BELLRAFTER_NO_CANDIDATE);
+    go_back(&here);
+    want_start("start", (struct bellrafter_start){0, 1, 1, 0, 0, 2, 0}, M);
+    want("tail 3 again, all started", BELLRAFTER_DOORBELL, twin_tail(1, 3));
+    want_finish("a marked SQ's command", M, 0, 0, 0, 2);
+    look_at_all();
 }
 
 /* The order in which SQs are served: each digit is an SQ, and each SQ gets as many commands as it has digits. */
@@ -888,6 +932,7 @@ void controller_cases(void)
         new_cases();
         create_cases();
         doorbell_write_cases();
+        held_cases();
         order_cases();
         start_cases(0);
         start_cases(1);

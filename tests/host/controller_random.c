@@ -39,6 +39,9 @@
     X(TAG_REUSED, "first half's tag in use again") \
     X(SQHD_MOVED, "SQ head moved since start") \
     X(MARKED_FINISHES, "command of a marked SQ") \
+    X(TAIL_HELD, "10, the tail held") \
+    X(TAIL_HELD_MARKED, "11, the tail held") \
+    X(HEAD_HELD, "10, the head held") \
     X(SHORT_DONE, "done in a part of memory") \
     X(BACK, "saved states gone back to")
 
@@ -210,7 +213,26 @@ static void create_sq(uint64_t id, uint64_t damage)
     answers(CREATE_SQ, twin_create_sq(lent, id, size, base, cq, priority_class));
 }
 
-/* The host writes entries and moves the tail past them, or past some of them. */
+static void tail(uint64_t id, uint64_t value)
+{
+    bool held = id < 16 && value == plain.sqs[id].tail;
+    uint64_t refusal = twin_tail(id, value);
+
+    answers(TAIL, refusal);
+    happens(TAIL_HELD, held && refusal == BELLRAFTER_DOORBELL);
+    happens(TAIL_HELD_MARKED, held && refusal == BELLRAFTER_MARKED);
+}
+
+static void head(uint64_t id, uint64_t value)
+{
+    bool held = id < 16 && value == plain.cqs[id].head;
+    uint64_t refusal = twin_head(id, value);
+
+    answers(HEAD, refusal);
+    happens(HEAD_HELD, held && refusal == BELLRAFTER_DOORBELL);
+}
+
+/* The host writes entries and moves the tail past them, or past some of them; past none, it rarely writes the tail. */
 static void submit(void)
 {
     uint64_t id = draw_sq(16);
@@ -222,7 +244,8 @@ static void submit(void)
     uint64_t count = below((room < 5 ? room : 5) + 1), moved = once_in(8) ? below(count + 1) : count;
 
     draw_entries(id, count);
-    answers(TAIL, twin_tail(id, (sq->tail + moved) % sq->size));
+    if (moved > 0 || once_in(512))
+        tail(id, (sq->tail + moved) % sq->size);
 }
 
 /* A tail write that may be wrong. */
@@ -231,10 +254,10 @@ static void write_tail(void)
     uint64_t id = once_in(4) ? (once_in(2) ? beyond(16) : below(16)) : draw_sq(0);
     uint64_t value = id < 16 && plain.sqs[id].exists ? below(plain.sqs[id].size + 1) : below(4);
 
-    answers(TAIL, twin_tail(id, once_in(8) ? any_number() : value));
+    tail(id, once_in(8) ? any_number() : value);
 }
 
-/* The host releases some of what waits. */
+/* The host releases some of what waits; none of it, it rarely writes the head. */
 static void release(void)
 {
     uint64_t id = draw_cq(0);
@@ -242,8 +265,9 @@ static void release(void)
 
     if (!cq->exists)
         return;
-    uint64_t waiting = waiting_in(cq->size, cq->head, cq->tail);
-    answers(HEAD, twin_head(id, (cq->head + (once_in(2) ? waiting : below(waiting + 1))) % cq->size));
+    uint64_t waiting = waiting_in(cq->size, cq->head, cq->tail), released = once_in(2) ? waiting : below(waiting + 1);
+    if (released > 0 || once_in(16))
+        head(id, (cq->head + released) % cq->size);
 }
 
 static void write_head(void)
@@ -251,7 +275,7 @@ static void write_head(void)
     uint64_t id = once_in(4) ? (once_in(2) ? beyond(16) : below(16)) : draw_cq(0);
     uint64_t value = id < 16 && plain.cqs[id].exists ? below(plain.cqs[id].size + 1) : below(4);
 
-    answers(HEAD, twin_head(id, once_in(8) ? any_number() : value));
+    head(id, once_in(8) ? any_number() : value);
 }
 
 static uint64_t free_tags(void)
@@ -375,7 +399,7 @@ static void step(const struct mood *mood)
         release();
     else if (once_in(3))
         write_head();
-    else if (once_in(6))
+    else if (once_in(8))
         write_tail();
     else if (once_in(2))
         create_cq(unused_cq(), 6);

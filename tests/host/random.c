@@ -134,7 +134,9 @@ static void random_rings(uint64_t calls)
     report_notes("ring_read");
 }
 
-static void random_doorbells(const char *name, doorbell_check *check, doorbell_check *reference, uint64_t calls)
+/* `tails`: whether the value is a tail's. `farthest` is the value that fills the ring, or empties it. */
+static void random_doorbells(const char *name, doorbell_check *check, doorbell_check *reference, bool tails,
+                             uint64_t calls)
 {
     char what[160];
 
@@ -143,6 +145,7 @@ static void random_doorbells(const char *name, doorbell_check *check, doorbell_c
         uint64_t head = once_in(16) ? beyond(size) : below(size);
         uint64_t tail = once_in(16) ? beyond(size) : below(size);
         uint64_t value = once_in(16) ? beyond(size) : below(size);
+        uint64_t held = tails ? tail : head, farthest = tails ? (head + size - 1) % size : tail;
         bool inside = head < size && tail < size && value < size;
 
         if (once_in(8))
@@ -151,11 +154,11 @@ static void random_doorbells(const char *name, doorbell_check *check, doorbell_c
                  size, head, tail, value);
         uint64_t refusal = check(size, head, tail, value);
         expect(what, of_number(reference(size, head, tail, value)), of_number(refusal));
-        note("done, value at head", refusal == 0 && value == head);
-        note("done, value at tail", refusal == 0 && value == tail);
-        note("done, value elsewhere", refusal == 0 && value != head && value != tail);
+        note("done, farthest value", refusal == 0 && value == farthest);
+        note("done, another value", refusal == 0 && value != farthest);
         note("refusal 3", refusal == 3);
-        note("refusal 10, all below size", refusal == 10 && inside);
+        note("refusal 10, the value held", refusal == 10 && inside && value == held);
+        note("refusal 10, all below size", refusal == 10 && inside && value != held);
         note("refusal 10, one not below", refusal == 10 && !inside);
     }
     report_notes(name);
@@ -331,8 +334,8 @@ void random_calls(uint64_t calls)
     random_entries(calls);
     random_submissions(calls);
     random_rings(calls);
-    random_doorbells("tail_check", bellrafter_tail_check, ref_tail_check, calls);
-    random_doorbells("head_check", bellrafter_head_check, ref_head_check, calls);
+    random_doorbells("tail_check", bellrafter_tail_check, ref_tail_check, true, calls);
+    random_doorbells("head_check", bellrafter_head_check, ref_head_check, false, calls);
     for (uint64_t page = 0; page <= 4; page++)
         random_walks(page, calls / 5);
     report_notes("page_walk");

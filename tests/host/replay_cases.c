@@ -117,18 +117,19 @@ static void result_cases(void)
     commands(0, 1023);
     pair(3);
     replayed("tail above 255", M, "01010302", "01000302");
-    replayed("tail held already", M, "01010302", "01000302");
     replayed("first tags", M, "03000000 03000000 03000000", "03000000 03000100 03000200");
     replayed("slots posted", M, "0402FF7F 04000501", "04000000 04000100");
     posted(0, 3, 2, 0x7FFF);
     posted(1, 3, 0, 0x0105);
     replayed("a pair's first tag", M, "03000000 03000000", "03000000 03000300");
-    replayed("head", M, "02010100 02010200 02010200", "02000100 02000200 02000200");
+    replayed("head", M, "02010100 02010200 02010200", "02000100 02000200 020A0000");
     replayed("a pair", M, "04023412 04000700 04020000", "04100000 04000200 04000300");
     posted(2, 6, 3, 7);
     posted(3, 6, 4, BELLRAFTER_STATUS_FAILED_FUSED);
     rounds(400, 0, 4);
-    replayed("head above 255", M, "02010101 02019401 02019501", "02000101 02009401 020A0000");
+    replayed("head above 255", M, "02010101 02010101 02019401 02019501 02019401",
+             "02000101 020A0000 02009401 020A0000 020A0000");
+    replayed("tail above 255, the value held", M, "01010302 01010402", "010A0000 010B0000");
 }
 
 /* "CQ size 2: one posting, then 17; head write 1; slot 1 with tag 1; head write 0; slot 0 with tag 0." */
@@ -154,17 +155,24 @@ static void doorbell_cases(void)
     replayed("tail, 9", M, "01000000 01020100 010FFFFF", "01090000 01090000 01090000");
     replayed("head, 1", M, "02100000 02FF0100 0210FFFF", "02010000 02010000 02010000");
     replayed("head, 9", M, "02000000 02020000 020FFFFF", "02090000 02090000 02090000");
-    replayed("head, 10", M, "02010100 02010400 0201FFFF", "020A0000 020A0000 020A0000");
+    replayed("head, 10", M, "02010000 02010100 02010400 0201FFFF", "020A0000 020A0000 020A0000 020A0000");
     replayed("start, 12", M, "03000000 03000000", "030C0000 030C0000");
     compare_saved(&here);
-    replayed("a bad head marks nothing", M, "02010100 02010000", "020A0000 02000000");
-    compare_saved(&here);
+    replayed("a bad head does not count", M, "01010100 03000000 04000000 02010200 02010000 02010100 02010100",
+             "01000100 03000000 04000000 020A0000 020A0000 02000100 020A0000");
+    go_back(&here);
     replayed("tail, 10, which marks", M, "01010200 01010400 01010200 01010300 0101FFFF 03000000",
              "01000200 010A0000 010B0000 010B0000 010B0000 030C0000");
     go_back(&here);
     replayed("tail, 10, highest byte", M, "01010001 01010100", "010A0000 010B0000");
     go_back(&here);
     replayed("tail, 10, behind", M, "01010200 01010100 01010200", "01000200 010A0000 010B0000");
+    go_back(&here);
+    replayed("tail, 10, the value held", M, "01010200 01010200 01010200 01010300 03000000",
+             "01000200 010A0000 010B0000 010B0000 030C0000");
+    go_back(&here);
+    replayed("tail, 10, 0 in a new SQ", M, "01010000 01010000 01010100 03000000",
+             "010A0000 010B0000 010B0000 030C0000");
     go_back(&here);
     replayed("a marked SQ's command", M, "01010200 03000000 01010100 04000000 03000000",
              "01000200 03000000 010A0000 04000000 030C0000");

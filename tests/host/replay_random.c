@@ -32,11 +32,11 @@ struct mood {
 };
 
 static const struct mood moods[] = {
-    {14, 16, 18, 96}, /* balanced */
-    {20, 6, 34, 128}, /* hoarding tags */
-    {6, 24, 8, 128},  /* draining */
-    {16, 4, 20, 128}, /* a slow host: CQs run full */
-    {16, 16, 16, 5},  /* wrong records */
+    {20, 20, 12, 96}, /* balanced */
+    {28, 8, 24, 128}, /* hoarding tags */
+    {8, 28, 6, 128},  /* draining */
+    {22, 8, 16, 128}, /* a slow host: CQs run full */
+    {20, 20, 12, 5},  /* wrong records */
 };
 
 /* Drawing. `damage`: one in so many numbers is a wrong one, and one in so many records. */
@@ -87,7 +87,7 @@ static void damage_record(uint8_t *record)
         record[1 + below(RECORD - 1)] |= (uint8_t)(1 + below(255));
 }
 
-static void draw_record(uint8_t *record, const struct mood *mood)
+static void draw_call(uint8_t *record, const struct mood *mood)
 {
     uint64_t drawn = below(64);
 
@@ -100,6 +100,31 @@ static void draw_record(uint8_t *record, const struct mood *mood)
         record[0] = BELLRAFTER_CALL_START;
     else
         draw_finish(record, mood->damage);
+}
+
+/* Whether a record writes the tail, or the head, that its queue holds. */
+static bool writes_tail_held(const uint8_t *record)
+{
+    const struct ref_sq *sq = &plain.sqs[record[1] % 16];
+
+    return record[0] == BELLRAFTER_CALL_TAIL_WRITE && record[1] < 16 && sq->exists &&
+           ref_record_value(record) == sq->tail;
+}
+
+static bool writes_head_held(const uint8_t *record)
+{
+    const struct ref_cq *cq = &plain.cqs[record[1] % 16];
+
+    return record[0] == BELLRAFTER_CALL_HEAD_WRITE && record[1] < 16 && cq->exists &&
+           ref_record_value(record) == cq->head;
+}
+
+/* Few of the records that would write the value held are left: they mark the SQ, or move no head. */
+static void draw_record(uint8_t *record, const struct mood *mood)
+{
+    do
+        draw_call(record, mood);
+    while ((writes_tail_held(record) && !once_in(64)) || (writes_head_held(record) && !once_in(16)));
     if (once_in(mood->damage))
         damage_record(record);
 }
@@ -222,6 +247,8 @@ static void one_by_one(size_t lent, size_t bytes)
     for (size_t at = 0; at < bytes; at += RECORD) {
         uint8_t answer[RECORD];
         uint64_t result = 0, refusal = ref_record_refusal(trace + at, bytes - at);
+        note("10, the tail held", refusal == 0 && writes_tail_held(trace + at) && answers[at + 1] == 10);
+        note("10, the head held", refusal == 0 && writes_head_held(trace + at) && answers[at + 1] == 10);
         if (refusal == 0)
             refusal = call_of_record(lent, trace + at, &result);
         ref_answer_record(answer, trace[at], refusal, result);
