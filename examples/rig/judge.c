@@ -22,7 +22,7 @@
  *         lost      it forgets a command
  *
  * The program says where the first difference is. Its exit status is 0 if none was found, 1 if one was, 2 if it was
- * called wrongly.
+ * called wrongly, or if the model refused what the rig itself did.
  *
  * The cartridge is a small simulated one, at the end of this file. To judge a real one, put its memory and its
  * doorbells behind the four functions of struct cartridge, and copy what it writes, with the barriers that your
@@ -30,6 +30,7 @@
  */
 #include <stdbool.h>
 #include <stdio.h>
+#include <stdlib.h>
 #include <string.h>
 
 #include "bellrafter.h"
@@ -165,10 +166,19 @@ static void submit(uint64_t sq, uint8_t opc, uint64_t fuse, uint64_t slba)
     sq_tail[sq] = (sq_tail[sq] + 1) % SQ_SIZE;
 }
 
+/* The model's answer to a doorbell write of the rig. A refusal is the rig's own fault: nothing can be judged by it. */
+static void expect_done(uint64_t refusal)
+{
+    if (refusal != BELLRAFTER_DONE) {
+        fprintf(stderr, "the rig's doorbell write was refused: %s\n", bellrafter_refusal_text(refusal));
+        exit(2);
+    }
+}
+
 static void write_tail(struct cartridge *c, uint64_t sq)
 {
     cartridge_write_tail(c, sq, sq_tail[sq]);
-    bellrafter_tail_write(model, sq, sq_tail[sq]);
+    expect_done(bellrafter_tail_write(model, sq, sq_tail[sq]));
 }
 
 /* Reads what waits, at most `most` completions, and releases it: a recorder that is slow. */
@@ -177,6 +187,8 @@ static void release(struct cartridge *c, uint64_t most)
     struct bellrafter_waiting w =
         bellrafter_ring_read(memory + CQ_BASE, BELLRAFTER_COMPLETION_BYTES * CQ_SIZE, CQ_SIZE, cq_head, cq_tag);
 
+    if (w.count == 0)
+        return; /* a host may not write the head that the queue holds */
     for (uint64_t i = 0; i < w.count && i < most; i++) {
         if (++cq_head == CQ_SIZE) {
             cq_head = 0;
@@ -184,7 +196,7 @@ static void release(struct cartridge *c, uint64_t most)
         }
     }
     cartridge_write_head(c, cq_head);
-    bellrafter_head_write(model, CQ, cq_head);
+    expect_done(bellrafter_head_write(model, CQ, cq_head));
 }
 
 static bool set_up(struct cartridge *c, const char *misbehaviour)
