@@ -2,7 +2,8 @@
  * Times the controller's calls of bellrafter.h against a plain C controller, in one process: the same loop around both
  * (loops.h), over the same memory, in alternating runs that all begin with a fresh controller. No call is inlined.
  * Before a row is timed its batches are made on both sides: answers, memory and the queues' places must be equal, and
- * no call may be refused. The same is asked of what the timed runs answer, but for the answer records of a replay.
+ * each call accepted, or refused in a row of refused ones. The same is asked of what the timed runs answer, but for the
+ * answer records of a replay.
  *
  * The loop by itself is taken off both sides, unless a row says otherwise.
  */
@@ -29,6 +30,8 @@ uint8_t memory[MEMORY], trace[TRACE], answers[TRACE];
 static const struct row controller_rows[] = {
     {"doorbell write (tail)", "doorbell write (tail), with the loop around it", {TAILS, 0, 16, 0}},
     {"doorbell write (head)", "doorbell write (head), with the loop around it", {HEADS, 0, 16, 0}},
+    {"doorbell write (head held: refused)", "doorbell write (head held: refused), with the loop around it",
+     {HELD, 0, 16, 0}},
     {"start and finish, mechanism 0, 1 busy queue of 16", NULL, {COMMANDS, 0, 1, 0}},
     {"start and finish, mechanism 0, 16 busy queues", NULL, {COMMANDS, 0, 16, 0}},
     {"start and finish, mechanism 0, fused pairs (a start and two finishes)", NULL, {PAIRS, 0, 1, 0}},
@@ -69,6 +72,7 @@ static double calls_of(const struct plan *plan)
     switch (plan->kind) {
     case TAILS:
     case HEADS:
+    case HELD:
         return QUEUES * (LONG - 1);
     case PAIRS:
         return SUBMITTED / 2 * (double)plan->busy;
@@ -134,7 +138,7 @@ static struct heard prepare(const struct row *row, const struct side *side)
     return side->prepare(&row->plan);
 }
 
-/* Makes the batches on both sides; ends the program if they differ, or if a call is refused. */
+/* Makes the batches on both sides; ends the program if they differ, or if a call is not answered as wanted. */
 static void compare(const struct row *row)
 {
     const struct side *sides[2] = {&side_ours, &side_plain};
@@ -156,8 +160,8 @@ static void compare(const struct row *row)
             memcpy(left[k].memory, memory, sizeof memory);
             memcpy(left[k].answers, answers, sizeof answers);
         }
-        if (left[0].heard.refused != 0 || left[1].heard.refused != 0)
-            failed(row, "a call is refused", compared[i]);
+        if (left[0].heard.unwanted != 0 || left[1].heard.unwanted != 0)
+            failed(row, "a call has another refusal number", compared[i]);
         if (left[0].heard.digest != left[1].heard.digest)
             failed(row, "the answers differ", compared[i]);
         if (memcmp(left[0].answers, left[1].answers, sizeof answers) != 0)
@@ -185,10 +189,11 @@ static double run_ns(const void *of_row, const void *of_side, uint64_t batches)
     from = spent_ns();
     heard = side->run(&row->plan, batches);
     to = spent_ns();
-    if (heard.refused != 0)
-        failed(row, "a call is refused", batches);
-    if (side != &side_none)
-        answered[side == &side_plain] = heard;
+    if (side == &side_none)
+        return to - from;
+    if (heard.unwanted != 0)
+        failed(row, "a call has another refusal number", batches);
+    answered[side == &side_plain] = heard;
     return to - from;
 }
 

@@ -1,8 +1,10 @@
 /*
  * Times the calls of bellrafter.h that need no controller against the same calls in plain C, in one process: both on
  * the same inputs and buffers, through the same loop, in alternating runs. Before a row is timed each of its calls is
- * made on both sides, and answers and buffers must be equal. The loop around the calls is in all times.
+ * made on both sides: answers and buffers must be equal, and the refusal number the one that the row is about. The loop
+ * around the calls is in all times.
  */
+#include <stdbool.h>
 #include <stdio.h>
 #include <stdlib.h>
 #include <string.h>
@@ -14,6 +16,9 @@
 
 /* INPUTS: a row has no more inputs than these. */
 enum { INPUTS = 512, SLOTS = 64, MOST_ENTRIES = 1024, MOST_PAGES = 257 };
+
+/* Instead of the refusal number that each call of a row answers. */
+#define ANY UINT64_MAX
 
 /* One of the two sides. */
 struct side {
@@ -49,9 +54,10 @@ static struct {
 static uint8_t ring[16 * MOST_ENTRIES];
 static uint8_t memory[1 << 20];
 
-/* What a run leaves: the sum of all numbers answered, the last answer, and the buffers. */
+/* What a run leaves: the sum of all numbers answered, the last refusal number and answer, and the buffers. */
 static struct {
     uint64_t sum;
+    uint64_t refusal;
     struct bellrafter_completion completion;
     struct bellrafter_waiting waiting;
     struct bellrafter_pages pages;
@@ -60,12 +66,16 @@ static struct {
     uint8_t counts[4 * MOST_PAGES];
 } left, left_by_ours;
 
-/* A row of the table: its inputs are made from two numbers, then `run` makes the calls from number `first` on. */
+/*
+ * A row of the table: its inputs are made from two numbers, then `run` makes the calls from number `first` on. Each of
+ * them must answer `refusal`.
+ */
 struct row {
     const char *what;
     void (*make)(uint64_t, uint64_t);
     uint64_t numbers[2];
     void (*run)(const struct side *side, uint64_t first, uint64_t calls);
+    uint64_t refusal;
 };
 
 /* The generator is splitmix64. */
@@ -110,6 +120,26 @@ static void make_doorbells(uint64_t wrong_size, uint64_t beyond)
     }
 }
 
+/* Tails written to rings of up to `most` entries with room for one more: each moves on, or it is the one held. */
+static void make_tails(uint64_t most, uint64_t moves)
+{
+    for (size_t i = 0; i < INPUTS; i++) {
+        uint64_t size = 2 + below(most - 1), head = below(size), waiting = below(size - 1);
+        uint64_t steps = moves ? 1 + below(size - 1 - waiting) : 0;
+        doorbells[i] = (struct doorbell){size, head, (head + waiting) % size, (head + waiting + steps) % size};
+    }
+}
+
+/* Heads written to such rings in which at least one entry waits. */
+static void make_heads(uint64_t most, uint64_t moves)
+{
+    for (size_t i = 0; i < INPUTS; i++) {
+        uint64_t size = 2 + below(most - 1), head = below(size), waiting = 1 + below(size - 1);
+        uint64_t steps = moves ? 1 + below(waiting) : 0;
+        doorbells[i] = (struct doorbell){size, head, (head + waiting) % size, (head + steps) % size};
+    }
+}
+
 /* A ring in which `waiting` completions wait, from its second quarter on and over the wrap. */
 static void make_ring(uint64_t size, uint64_t waiting)
 {
@@ -151,15 +181,17 @@ static void make_list(uint64_t pages, uint64_t page)
 
 static void run_write(const struct side *side, uint64_t first, uint64_t calls)
 {
-    uint64_t sum = 0;
+    uint64_t sum = 0, refusal = 0;
 
     for (uint64_t n = first; n < first + calls; n++) {
         uint64_t i = n % SLOTS;
-        sum += side->completion_write(left.entries + 16 * i, 16, completions[i].result, completions[i].sqhd,
-                                      completions[i].sqid, completions[i].cid, completions[i].status,
-                                      completions[i].phase);
+        refusal = side->completion_write(left.entries + 16 * i, 16, completions[i].result, completions[i].sqhd,
+                                         completions[i].sqid, completions[i].cid, completions[i].status,
+                                         completions[i].phase);
+        sum += refusal;
     }
     left.sum = sum;
+    left.refusal = refusal;
 }
 
 static void run_read(const struct side *side, uint64_t first, uint64_t calls)
@@ -172,6 +204,7 @@ static void run_read(const struct side *side, uint64_t first, uint64_t calls)
         sum += c.refusal + c.result + c.sqhd + c.sqid + c.cid + c.status + c.phase;
     }
     left.sum = sum;
+    left.refusal = c.refusal;
     left.completion = c;
 }
 
@@ -185,6 +218,7 @@ static void run_ring(const struct side *side, uint64_t first, uint64_t calls)
         sum += w.refusal + w.count;
     }
     left.sum = sum;
+    left.refusal = w.refusal;
     left.waiting = w;
 }
 
@@ -198,24 +232,28 @@ static const struct doorbell *doorbell_of(uint64_t n)
 
 static void run_tail(const struct side *side, uint64_t first, uint64_t calls)
 {
-    uint64_t sum = 0;
+    uint64_t sum = 0, refusal = 0;
 
     for (uint64_t n = first; n < first + calls; n++) {
         const struct doorbell *d = doorbell_of(n);
-        sum += side->tail_check(d->size, d->head, d->tail, d->value);
+        refusal = side->tail_check(d->size, d->head, d->tail, d->value);
+        sum += refusal;
     }
     left.sum = sum;
+    left.refusal = refusal;
 }
 
 static void run_head(const struct side *side, uint64_t first, uint64_t calls)
 {
-    uint64_t sum = 0;
+    uint64_t sum = 0, refusal = 0;
 
     for (uint64_t n = first; n < first + calls; n++) {
         const struct doorbell *d = doorbell_of(n);
-        sum += side->head_check(d->size, d->head, d->tail, d->value);
+        refusal = side->head_check(d->size, d->head, d->tail, d->value);
+        sum += refusal;
     }
     left.sum = sum;
+    left.refusal = refusal;
 }
 
 static void run_walk(const struct side *side, uint64_t first, uint64_t calls)
@@ -229,29 +267,40 @@ static void run_walk(const struct side *side, uint64_t first, uint64_t calls)
         sum += p.refusal + p.pages + p.reads;
     }
     left.sum = sum;
+    left.refusal = p.refusal;
     left.pages = p;
 }
 
 static const struct row rows[] = {
-    {"completion writer", make_completions, {SLOTS, 16}, run_write},
-    {"completion reader", make_completions, {SLOTS, 16}, run_read},
-    {"ring reader, 64 entries, all wait", make_ring, {64, 63}, run_ring},
-    {"ring reader, 256 entries, all wait", make_ring, {256, 255}, run_ring},
-    {"ring reader, 1,024 entries, all wait", make_ring, {1024, 1023}, run_ring},
-    {"ring reader, 1,024 entries, 512 wait", make_ring, {1024, 512}, run_ring},
-    {"ring reader, 1,024 entries, none wait", make_ring, {1024, 0}, run_ring},
-    {"tail check", make_doorbells, {8, 4}, run_tail},
-    {"head check", make_doorbells, {8, 4}, run_head},
-    {"page walk, 1 page of 4,096", make_list, {1, 0}, run_walk},
-    {"page walk, 2 pages of 4,096", make_list, {2, 0}, run_walk},
-    {"page walk, 3 pages of 4,096", make_list, {3, 0}, run_walk},
-    {"page walk, 17 pages of 4,096", make_list, {17, 0}, run_walk},
-    {"page walk, 65 pages of 4,096", make_list, {65, 0}, run_walk},
-    {"page walk, 257 pages of 4,096", make_list, {257, 0}, run_walk},
-    {"page walk, 17 pages of 65,536", make_list, {17, 4}, run_walk},
+    {"completion writer", make_completions, {SLOTS, 16}, run_write, BELLRAFTER_DONE},
+    {"completion reader", make_completions, {SLOTS, 16}, run_read, BELLRAFTER_DONE},
+    {"ring reader, 64 entries, all wait", make_ring, {64, 63}, run_ring, BELLRAFTER_DONE},
+    {"ring reader, 256 entries, all wait", make_ring, {256, 255}, run_ring, BELLRAFTER_DONE},
+    {"ring reader, 1,024 entries, all wait", make_ring, {1024, 1023}, run_ring, BELLRAFTER_DONE},
+    {"ring reader, 1,024 entries, 512 wait", make_ring, {1024, 512}, run_ring, BELLRAFTER_DONE},
+    {"ring reader, 1,024 entries, none wait", make_ring, {1024, 0}, run_ring, BELLRAFTER_DONE},
+    {"tail check, accepted", make_tails, {MOST_ENTRIES, true}, run_tail, BELLRAFTER_DONE},
+    {"tail check, tail held: refused", make_tails, {MOST_ENTRIES, false}, run_tail, BELLRAFTER_DOORBELL},
+    {"tail check, values of all kinds", make_doorbells, {8, 4}, run_tail, ANY},
+    {"head check, accepted", make_heads, {MOST_ENTRIES, true}, run_head, BELLRAFTER_DONE},
+    {"head check, head held: refused", make_heads, {MOST_ENTRIES, false}, run_head, BELLRAFTER_DOORBELL},
+    {"head check, values of all kinds", make_doorbells, {8, 4}, run_head, ANY},
+    {"page walk, 1 page of 4,096", make_list, {1, 0}, run_walk, BELLRAFTER_DONE},
+    {"page walk, 2 pages of 4,096", make_list, {2, 0}, run_walk, BELLRAFTER_DONE},
+    {"page walk, 3 pages of 4,096", make_list, {3, 0}, run_walk, BELLRAFTER_DONE},
+    {"page walk, 17 pages of 4,096", make_list, {17, 0}, run_walk, BELLRAFTER_DONE},
+    {"page walk, 65 pages of 4,096", make_list, {65, 0}, run_walk, BELLRAFTER_DONE},
+    {"page walk, 257 pages of 4,096", make_list, {257, 0}, run_walk, BELLRAFTER_DONE},
+    {"page walk, 17 pages of 65,536", make_list, {17, 4}, run_walk, BELLRAFTER_DONE},
 };
 
-/* Makes every call of a row on both sides; ends the program if they differ. */
+static void failed(const struct row *row, const char *why, uint64_t call)
+{
+    printf("FAILED %s: %s (call %u)\n", row->what, why, (unsigned)call);
+    exit(1);
+}
+
+/* Makes every call of a row on both sides; ends the program if they differ, or if a call answers another refusal. */
 static void compare(const struct row *row)
 {
     for (uint64_t n = 0; n < INPUTS; n++) {
@@ -260,10 +309,10 @@ static void compare(const struct row *row)
         memcpy(&left_by_ours, &left, sizeof left);
         memset(&left, 0xA5, sizeof left);
         row->run(&plain, n, 1);
-        if (memcmp(&left, &left_by_ours, sizeof left) != 0) {
-            printf("FAILED %s: call %u differs\n", row->what, (unsigned)n);
-            exit(1);
-        }
+        if (memcmp(&left, &left_by_ours, sizeof left) != 0)
+            failed(row, "the sides differ", n);
+        if (row->refusal != ANY && left.refusal != row->refusal)
+            failed(row, "another refusal number", n);
     }
 }
 

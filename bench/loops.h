@@ -9,7 +9,7 @@
 
 /* What was heard; the tail of each busy queue, the tail of its completion queue, and the tag to finish next. */
 static struct progress {
-    uint64_t digest, refused, tail, posted, tag;
+    uint64_t digest, unwanted, tail, posted, tag;
 } at;
 
 static inline uint64_t mixed(uint64_t digest, uint64_t x)
@@ -20,7 +20,7 @@ static inline uint64_t mixed(uint64_t digest, uint64_t x)
 static inline void hear(uint64_t refusal)
 {
     at.digest = mixed(at.digest, refusal);
-    at.refused |= refusal;
+    at.unwanted |= refusal;
 }
 
 static inline uint64_t number_of_start(struct bellrafter_start s)
@@ -36,21 +36,21 @@ static inline uint64_t number_of_finish(struct bellrafter_finish f)
 /* Starts n times; after each start come so many finishes, of the tags up to the last one in turn. */
 static void trips(uint64_t n, uint64_t finishes, uint64_t last_tag)
 {
-    uint64_t digest = at.digest, refused = at.refused, tag = at.tag;
+    uint64_t digest = at.digest, unwanted = at.unwanted, tag = at.tag;
 
     for (uint64_t i = 0; i < n; i++) {
         struct bellrafter_start s = call_start();
         digest = mixed(digest, number_of_start(s));
-        refused |= s.refusal | s.verdict;
+        unwanted |= s.refusal | s.verdict;
         for (uint64_t k = 0; k < finishes; k++) {
             struct bellrafter_finish f = call_finish(tag, 0, (uint32_t)i);
             digest = mixed(digest, number_of_finish(f));
-            refused |= f.refusal;
+            unwanted |= f.refusal;
             tag = last_tag <= tag ? 0 : tag + 1;
         }
     }
     at.digest = digest;
-    at.refused = refused;
+    at.unwanted = unwanted;
     at.tag = tag;
 }
 
@@ -91,6 +91,19 @@ static inline uint64_t write_head(uint64_t id, uint64_t step)
     return call_head(id, (first_head(id) + step) % LONG);
 }
 
+static inline uint64_t write_held(uint64_t id, uint64_t step)
+{
+    (void)step;
+    return call_head(id, first_head(id));
+}
+
+typedef uint64_t doorbell_write(uint64_t id, uint64_t step);
+
+static doorbell_write *write_of(enum kind kind)
+{
+    return kind == TAILS ? write_tail : kind == HEADS ? write_head : write_held;
+}
+
 /* Leads each queue to its place, its submission ring empty and its completion ring full. */
 static void stagger(void)
 {
@@ -106,7 +119,7 @@ static void stagger(void)
 
 static struct heard heard(void)
 {
-    return (struct heard){at.digest, at.refused};
+    return (struct heard){at.digest, at.unwanted};
 }
 
 static struct heard prepare(const struct plan *plan)
@@ -129,36 +142,21 @@ static struct heard prepare(const struct plan *plan)
     return heard();
 }
 
-static void tails(void)
+/* Makes the writes of a batch, each to answer `wanted`. Inlined, so that each kind has a loop of its own. */
+static inline __attribute__((always_inline)) void writes(doorbell_write *write, uint64_t wanted)
 {
-    uint64_t digest = at.digest, refused = at.refused;
+    uint64_t digest = at.digest, unwanted = at.unwanted;
 
     call_restore();
     for (uint64_t step = 1; step < LONG; step++) {
         for (uint64_t id = 0; id < QUEUES; id++) {
-            uint64_t refusal = write_tail(id, step);
+            uint64_t refusal = write(id, step);
             digest = mixed(digest, refusal);
-            refused |= refusal;
+            unwanted |= refusal ^ wanted;
         }
     }
     at.digest = digest;
-    at.refused = refused;
-}
-
-static void heads(void)
-{
-    uint64_t digest = at.digest, refused = at.refused;
-
-    call_restore();
-    for (uint64_t step = 1; step < LONG; step++) {
-        for (uint64_t id = 0; id < QUEUES; id++) {
-            uint64_t refusal = write_head(id, step);
-            digest = mixed(digest, refusal);
-            refused |= refusal;
-        }
-    }
-    at.digest = digest;
-    at.refused = refused;
+    at.unwanted = unwanted;
 }
 
 static void commands(const struct plan *plan)
@@ -183,9 +181,11 @@ static struct heard run(const struct plan *plan, uint64_t batches)
 {
     for (uint64_t i = 0; i < batches; i++) {
         if (plan->kind == TAILS)
-            tails();
+            writes(write_tail, BELLRAFTER_DONE);
         else if (plan->kind == HEADS)
-            heads();
+            writes(write_head, BELLRAFTER_DONE);
+        else if (plan->kind == HELD)
+            writes(write_held, BELLRAFTER_DOORBELL);
         else if (plan->kind == REPLAYS)
             replayed();
         else
@@ -207,7 +207,7 @@ static struct heard watch(const struct plan *plan)
     call_restore();
     for (uint64_t step = 1; step < LONG; step++) {
         for (uint64_t id = 0; id < QUEUES; id++) {
-            hear(plan->kind == TAILS ? write_tail(id, step) : write_head(id, step));
+            hear(write_of(plan->kind)(id, step));
             call_look(id, &place);
             at.digest = mixed(mixed(at.digest, place.sq_head), place.sq_tail);
             at.digest = mixed(mixed(mixed(at.digest, place.cq_head), place.cq_tail), place.phase);

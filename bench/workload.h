@@ -23,14 +23,16 @@ enum {
     TRACE = 1024 * ROUND
 };
 
-enum kind { TAILS, HEADS, COMMANDS, PAIRS, REPLAYS };
+enum kind { TAILS, HEADS, HELD, COMMANDS, PAIRS, REPLAYS };
 
 /*
  * What is timed. TAILS and HEADS: a batch moves the tail of each queue, or the head of each completion queue, on by one
- * until it can go no further, all queues in turn; then the controller is put back to where it was. COMMANDS and PAIRS:
- * a batch submits to the busy queues, starts and finishes all of it and releases the completions, while `outstanding`
- * other commands stay outstanding: each finish takes the oldest one. REPLAYS: a batch is one replay of a trace whose
- * rounds go over the busy queues in turn, so often that each queue ends at the slot where it began.
+ * until it can go no further, all queues in turn; then the controller is put back to where it was. Each write is
+ * accepted. HELD: as many writes of the head that each completion queue holds. Each is refused and changes nothing; a
+ * tail that is held would mark its queue. COMMANDS and PAIRS: a batch submits to the busy queues, starts and finishes
+ * all of it and releases the completions, while `outstanding` other commands stay outstanding: each finish takes the
+ * oldest one. REPLAYS: a batch is one replay of a trace whose rounds go over the busy queues in turn, so often that
+ * each queue ends at the slot where it began.
  */
 struct plan {
     enum kind kind;
@@ -39,10 +41,11 @@ struct plan {
     uint64_t outstanding;
 };
 
-/* What the calls have answered: a digest, and all refusals and verdicts by "or". */
+/* What the calls have answered: a digest, and by "or" in which bits refusals and verdicts differ from the wanted ones:
+   from BELLRAFTER_DOORBELL for the writes of HELD, from 0 else. */
 struct heard {
     uint64_t digest;
-    uint64_t refused;
+    uint64_t unwanted;
 };
 
 /* Where the two queues of an id stand. */
@@ -60,7 +63,7 @@ struct side {
        begin. */
     struct heard (*prepare)(const struct plan *plan);
     struct heard (*run)(const struct plan *plan, uint64_t batches);
-    /* Makes a batch of TAILS or HEADS; the digest has also where each write led its queue. */
+    /* Makes a batch of TAILS, HEADS or HELD; the digest has also where each write led its queue. */
     struct heard (*watch)(const struct plan *plan);
     void (*look)(struct seen *seen);
 };
@@ -72,7 +75,7 @@ extern uint8_t memory[MEMORY], trace[TRACE], answers[TRACE];
 
 static inline uint64_t ring_size(const struct plan *plan)
 {
-    return plan->kind == TAILS || plan->kind == HEADS ? LONG : SHORT;
+    return plan->kind == TAILS || plan->kind == HEADS || plan->kind == HELD ? LONG : SHORT;
 }
 
 static inline uint64_t sq_base(uint64_t size, uint64_t id)
