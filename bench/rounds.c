@@ -10,7 +10,7 @@
 
 enum { QUEUES = 16, SIZE = 64, SUBMITTED = 62, WORD = 0x07030102 };
 
-enum kind { IDLE, DOORBELLS, COMMANDS, PAIRS };
+enum kind { IDLE, TAILS, COMMANDS, PAIRS, HELD };
 
 struct plan {
     uint64_t kind;
@@ -30,9 +30,14 @@ struct run {
 
 static uint8_t memory[131072];
 
+static uint64_t mixed(uint64_t digest, uint64_t x)
+{
+    return (digest * 31 + x) % 4294967296u;
+}
+
 static void mix(struct run *run, uint64_t x)
 {
-    run->digest = (run->digest * 31 + x) % 4294967296u;
+    run->digest = mixed(run->digest, x);
 }
 
 /* The entry in a slot: a read, or in turn the two halves of a pair. */
@@ -61,10 +66,26 @@ static void create_queues(struct run *run, uint64_t mechanism, bool pairs)
     }
 }
 
-static void writes(struct run *run, uint64_t n)
+/*
+ * Tail writes on a copy of a controller whose queues are new: each moves its tail on by one, and is accepted. Before them
+ * goes a 1 into the digest, which then tells how many answers of 0 came.
+ */
+static void tails(struct run *run, uint64_t n)
 {
+    struct controller copy = run->controller;
+    uint64_t digest = mixed(run->digest, 1);
     for (uint64_t i = 0; i < n; i++)
-        mix(run, tail_write(&run->controller, i % QUEUES, 0));
+        digest = mixed(digest, tail_write(&copy, i % QUEUES, i / QUEUES + 1));
+    run->digest = digest;
+}
+
+/* Head writes of the value that each new queue holds: each is refused. The digest as in tails. */
+static void held(struct run *run, uint64_t n)
+{
+    uint64_t digest = mixed(run->digest, 1);
+    for (uint64_t i = 0; i < n; i++)
+        digest = mixed(digest, head_write(&run->controller, i % QUEUES, 0));
+    run->digest = digest;
 }
 
 static void submit(struct run *run, uint64_t busy, uint64_t n)
@@ -116,8 +137,12 @@ static void batch(struct run *run, const struct plan *p)
         idle(run, n);
         return;
     }
-    if (p->kind == DOORBELLS) {
-        writes(run, n);
+    if (p->kind == TAILS) {
+        tails(run, n);
+        return;
+    }
+    if (p->kind == HELD) {
+        held(run, n);
         return;
     }
     submit(run, p->busy, SUBMITTED);
@@ -136,8 +161,10 @@ int main(void)
               &p.batches) != 5)
         return 1;
     create_queues(&run, p.mechanism, p.kind == PAIRS);
-    submit(&run, 1, p.outstanding);
-    trips(&run, p.outstanding, 0, 0);
+    if (p.outstanding > 0) {
+        submit(&run, 1, p.outstanding);
+        trips(&run, p.outstanding, 0, 0);
+    }
     for (uint64_t i = 0; i < p.batches; i++)
         batch(&run, &p);
     printf("%" PRIu64, run.digest);

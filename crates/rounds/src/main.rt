@@ -35,12 +35,15 @@ const SUBMITTED: u64 = 62;
 const WORD: u32 = 0x07030102;
 
 // What the batches are made of.
-const DOORBELLS: u64 = 1;
+const TAILS: u64 = 1;
 
 const PAIRS: u64 = 3;
 
-// `kind` is 0 for an empty loop, 1 for tail writes, 2 for commands and 3 for fused pairs; `busy` is the number of queues with
-// commands, and `outstanding` that of the commands which stay outstanding beside those of the batch.
+const HELD: u64 = 4;
+
+// `kind` is 0 for an empty loop, 1 for tail writes that are accepted, 2 for commands, 3 for fused pairs and 4 for head writes of the
+// value held, which are refused; `busy` is the number of queues with commands, and `outstanding` that of the commands which stay
+// outstanding beside those of the batch.
 struct Plan {
     kind: u64,
     mechanism: u64,
@@ -150,15 +153,35 @@ fn first_of(busy: u64) -> u64
     if busy == 1 { 1 } else { 0 }
 }
 
-// `n` tail writes of the value that each queue holds.
-fn writes(state: &mut [u64; WORDS], run: Run, n: u64) -> Run
+// `n` tail writes on a copy of a controller whose queues are new: each moves its tail on by one, and is accepted. Before them goes a 1
+// into the digest, which then tells how many answers of 0 came.
+fn tails(state: &[u64; WORDS], run: Run, n: u64) -> Run
+    requires { ⌜ Reached (now state) ⌝ }
+{
+    let mut copy = *state;
+    let mut digest = mixed(run.digest, 1);
+    let mut i: u64 = 0;
+    while i < n {
+        digest = mixed(digest, tail_write(&mut copy, i % QUEUES, i / QUEUES + 1));
+        i += 1;
+    }
+    Run {
+        digest: digest,
+        tail: run.tail,
+        posted: run.posted,
+        tag: run.tag,
+    }
+}
+
+// `n` head writes of the value that each new queue holds: each is refused. The digest as in `tails`.
+fn held(state: &mut [u64; WORDS], run: Run, n: u64) -> Run
     requires { ⌜ Reached (now state) ⌝ }
     ensures { λ _. ⌜ Reached (now (state .exit)) ⌝ }
 {
-    let mut digest = run.digest;
+    let mut digest = mixed(run.digest, 1);
     let mut i: u64 = 0;
     while i < n {
-        digest = mixed(digest, tail_write(state, i % QUEUES, 0));
+        digest = mixed(digest, head_write(state, i % QUEUES, 0));
         i += 1;
     }
     Run {
@@ -287,8 +310,11 @@ fn batch(state: &mut [u64; WORDS], run: Run, memory: &mut [u8; MEMORY_BYTES], p:
     if p.kind == 0 {
         return idle(run, n);
     }
-    if p.kind == DOORBELLS {
-        return writes(state, run, n);
+    if p.kind == TAILS {
+        return tails(state, run, n);
+    }
+    if p.kind == HELD {
+        return held(state, run, n);
     }
     if p.kind == PAIRS {
         return round(state, run, memory, p.busy, n / 2, 2, p.outstanding + 1);
@@ -308,6 +334,9 @@ fn prepare(state: &mut [u64; WORDS], memory: &mut [u8; MEMORY_BYTES], p: Plan) -
         posted: 0,
         tag: 0,
     };
+    if p.outstanding == 0 {
+        return run;
+    }
     let submitted = submit(state, run, 1, p.outstanding);
     trips(state, submitted, memory, p.outstanding, 0, 0)
 }
@@ -353,7 +382,7 @@ fn plan_of(line: &[u8]) -> Plan
     let outstanding = next_word(line, busy.end);
     let batches = next_word(line, outstanding.end);
     Plan {
-        kind: number(line, kind, PAIRS),
+        kind: number(line, kind, HELD),
         mechanism: number(line, mechanism, 1),
         busy: number(line, busy, QUEUES),
         outstanding: number(line, outstanding, 63),
