@@ -1,7 +1,7 @@
-//! A second implementation of document 01 and of document 02's replay, written from the papers and
-//! from the same list of readings (docs/DECISIONS.md), sharing no code with the model, with a
-//! generator of random scripts in the console's language and a runner that holds another console to
-//! it.
+//! A second implementation of document 01 and of document 02's first two requests, written from the
+//! papers and from the same list of readings (docs/DECISIONS.md), sharing no code with the model,
+//! with a generator of random scripts in the console's language and a runner that holds another
+//! console to it.
 
 mod arbiter;
 mod compare;
@@ -22,6 +22,7 @@ mod replays;
 mod ring;
 mod shrink;
 mod traced;
+mod traced_doorbells;
 mod traced_replay;
 mod traffic;
 mod walk;

@@ -205,7 +205,8 @@ impl Controller {
         Ok(())
     }
 
-    /// "tail write 1, 9, 11, 10"; "10 on a tail write marks the SQ".
+    /// "tail write 1, 9, 11, 10"; "10 on a tail write marks the SQ". "A new queue holds 0; refused
+    /// writes do not count": the value held is the tail.
     pub fn write_tail(&mut self, id: u64, value: u64) -> Result<(), u64> {
         if id > 15 {
             return Err(1);
@@ -222,7 +223,7 @@ impl Controller {
         Ok(())
     }
 
-    /// "head write 1, 9, 10"; "A bad head write marks nothing."
+    /// "head write 1, 9, 10"; "A bad head write marks nothing." The value held is the head.
     pub fn write_head(&mut self, id: u64, value: u64) -> Result<(), u64> {
         if id > 15 {
             return Err(1);

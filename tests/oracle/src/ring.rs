@@ -1,4 +1,5 @@
-//! Rings, doorbell values and the completion reader: document 01, "Rings and doorbells".
+//! Rings, doorbell values and the completion reader: document 01, "Rings and doorbells", with
+//! document 02's second request, "Same value written twice".
 
 use crate::entry::{Completion, COMPLETION};
 
@@ -55,15 +56,16 @@ pub fn is_full(size: u64, head: u64, tail: u64) -> bool {
 }
 
 /// "A tail value is valid when it is below the size and its distance from the head is
-/// no less than the old tail's."
+/// no less than the old tail's." Document 02's second request: "a write of the value held is
+/// refused with 10 on either doorbell, in the plain checks too". An SQ holds its tail.
 pub fn tail_is_valid(size: u64, head: u64, tail: u64, value: u64) -> bool {
-    value < size && distance(size, head, value) >= distance(size, head, tail)
+    value < size && value != tail && distance(size, head, value) >= distance(size, head, tail)
 }
 
 /// "A head value is valid when it is below the size and its distance from the old head is
-/// no more than the tail's."
+/// no more than the tail's." The value held, as above, is the CQ's head.
 pub fn head_is_valid(size: u64, head: u64, tail: u64, value: u64) -> bool {
-    value < size && distance(size, head, value) <= distance(size, head, tail)
+    value < size && value != head && distance(size, head, value) <= distance(size, head, tail)
 }
 
 /// "plain doorbell checks 3, 10"; 10 "also a head or tail not below size".

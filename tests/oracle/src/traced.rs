@@ -1,9 +1,9 @@
 //! The traced examples at the end of document 01, with a few on pairs and on input lines,
-//! played through the console. `oracle selftest` runs them and those of the replay, and so does
-//! `cargo test`.
+//! played through the console. `oracle selftest` runs them and those of document 02's requests,
+//! and so does `cargo test`.
 
 use crate::console::{answers, Console};
-use crate::traced_replay;
+use crate::{traced_doorbells, traced_replay};
 
 /// A console that remembers every answer other than the expected one.
 pub struct Trial {
@@ -224,7 +224,8 @@ const TRIALS: [Named; 10] = [
 /// Plays all trials; answers what went wrong.
 pub fn faults() -> Vec<String> {
     let mut all = Vec::new();
-    for (name, play) in TRIALS.into_iter().chain(traced_replay::TRIALS) {
+    let trials = TRIALS.into_iter().chain(traced_doorbells::TRIALS).chain(traced_replay::TRIALS);
+    for (name, play) in trials {
         let mut trial = Trial::new();
         play(&mut trial);
         all.extend(trial.faults.into_iter().map(|fault| format!("{name}: {fault}")));

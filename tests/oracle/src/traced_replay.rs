@@ -112,6 +112,31 @@ fn pairs(t: &mut Trial) {
     t.replays(&[("03", "030d0000")]);
 }
 
+/// "a write of the value held is refused with 10 on either doorbell": document 02's second
+/// request, in records.
+fn value_held(t: &mut Trial) {
+    t.queue_1(4, 4);
+    t.replays(&[
+        ("02010000", "020a0000"),
+        ("01010200", "01000200"),
+        ("03", "03000000"),
+        ("04000000", "04000000"),
+        ("02010000", "020a0000"),
+        ("02010100", "02000100"),
+        ("02010100", "020a0000"),
+        ("01010200", "010a0000"),
+        ("01010200", "010b0000"),
+        ("01010300", "010b0000"),
+        ("03", "030c0000"),
+    ]);
+    t.play(
+        "show-sq 1 => show-sq 1 4096 4 1 2 1 0 1
+         show-cq 1 => show-cq 1 0 4 1 1 1",
+    );
+    t.queue_1(4, 4);
+    t.replays(&[("01010000", "010a0000"), ("01010000", "010b0000"), ("01010100", "010b0000")]);
+}
+
 /// "30 answers and goes on": no call is made, and the next record's is.
 fn malformed(t: &mut Trial) {
     t.queue_1(4, 4);
@@ -162,9 +187,9 @@ fn room(t: &mut Trial) {
         "replay 0 => replay 0 0
          replay 2048 => replay 0 0",
     );
-    let answered = record("01000100");
-    t.expect(&format!("replay 17 {sent}"), &format!("replay 0 1 {answered}"));
-    t.expect(&format!("replay 2048 {sent}"), &format!("replay 0 1 {answered}"));
+    t.expect(&format!("replay 17 {sent}"), &format!("replay 0 1 {}", record("01000100")));
+    let next = record("01010200");
+    t.expect(&format!("replay 2048 {next}"), &format!("replay 0 1 {}", record("01000200")));
 }
 
 /// How a line may be written, and that a bad one does nothing.
@@ -191,17 +216,18 @@ fn lines(t: &mut Trial) {
         t.expect(line, &format!("? {number}"));
     }
     t.expect("show-sq 1", "show-sq 1 4096 4 0 0 1 0 0");
-    let answer = "replay 0 1 0200000000000000000000000000000";
-    t.expect("replay 0x10 0201 00 00000000000000000000000000#0", &format!("{answer}0"));
+    let answer = format!("replay 0 1 {}", record("01000200"));
+    t.expect("replay 0x10 0101 02 00000000000000000000000000#0", &answer);
     let sent = "ABcdEF0123456789abCDef0123456789";
     t.expect(&format!("\treplay 0016\t{sent}\r"), &format!("replay 0 1 {}", record("ab1e")));
 }
 
-pub const TRIALS: [Named; 8] = [
+pub const TRIALS: [Named; 9] = [
     ("replay, the whole case", whole_case),
     ("replay, results", results),
     ("replay, refusals", refusals),
     ("replay, pairs", pairs),
+    ("replay, value held", value_held),
     ("replay, 30", malformed),
     ("replay, 31", short),
     ("replay, 21", room),
