@@ -127,7 +127,10 @@ impl Generator {
         };
         let base = self.odd_base(size, entry);
         if for_cq {
-            self.say(&format!("create-cq {id} {size} {base}"));
+            // "A new queue holds 0."
+            if self.say(&format!("create-cq {id} {size} {base}")) && self.random.chance(20) {
+                self.say(&format!("head {id} 0"));
+            }
             return;
         }
         let edge = self.random.edge();
@@ -146,7 +149,10 @@ impl Generator {
         } else {
             self.random.pick(&[4, 5, 255, 256, lifted, edge])
         };
-        self.say(&format!("create-sq {id} {size} {base} {cq} {class}"));
+        let line = format!("create-sq {id} {size} {base} {cq} {class}");
+        if self.say(&line) && self.random.chance(20) {
+            self.say(&format!("tail {id} 0"));
+        }
     }
 
     /// Mostly an id without a queue, else one with a queue, or one above 15.

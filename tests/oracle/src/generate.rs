@@ -129,7 +129,8 @@ impl Generator {
         if self.console.lent < MEMORY && self.random.chance(30) {
             self.say(&format!("lend {MEMORY}"));
         }
-        match self.random.weighted(&[500, 90, 36, 24, 38, 80, 40, 28, 60, 10, 6, 7, 3, 1, 5, 170]) {
+        let weights = [500, 90, 36, 24, 38, 100, 40, 28, 60, 10, 6, 7, 3, 1, 5, 8, 7, 170];
+        match self.random.weighted(&weights) {
             0 => self.traffic(mood),
             1 => self.odd_create(),
             2 => self.walks(),
@@ -145,6 +146,8 @@ impl Generator {
             12 => self.last_tag(),
             13 => self.long_run(),
             14 => self.crowd(),
+            15 => self.held_head(),
+            16 => self.early_head(),
             _ => self.replay(mood),
         }
     }
@@ -163,6 +166,41 @@ impl Generator {
         let sqs = self.console.controller.sqs.iter().enumerate();
         let unmarked = sqs.filter(|(_, sq)| sq.as_ref().is_some_and(|sq| !sq.marked));
         unmarked.map(|(id, _)| id).collect()
+    }
+
+    /// The SQs of those that have room.
+    pub fn open_sqs(&self) -> Vec<usize> {
+        self.unmarked_sqs().into_iter().filter(|id| self.room(*id) > 0).collect()
+    }
+
+    /// Whether an SQ may be marked now: mostly where others are left.
+    pub fn may_mark(&mut self) -> bool {
+        self.unmarked_sqs().len() > 2 || self.random.chance(10)
+    }
+
+    /// The number of an SQ that is marked or not there: often one that is marked, else this one
+    /// unless an unmarked SQ has it.
+    pub fn shut_sq(&mut self, wanted: u64) -> u64 {
+        let sq = |id: u64| self.console.controller.sq(id);
+        let shut = |id: &u64| sq(*id).is_none_or(|sq| sq.marked);
+        let marked: Vec<u64> = (0..16).filter(|id| sq(*id).is_some_and(|sq| sq.marked)).collect();
+        let others: Vec<u64> = (0..=16).filter(shut).collect();
+        match self.random.choose(&marked) {
+            Some(id) if self.random.chance(40) => id,
+            _ if shut(&wanted) => wanted,
+            _ => self.random.pick(&others),
+        }
+    }
+
+    /// The tail that an SQ holds, or the next one; of an SQ that is not there, as if it were new.
+    pub fn tail_or_next(&mut self, id: u64) -> u64 {
+        let (size, tail) = self.console.controller.sq(id).map_or((4, 0), |sq| (sq.size, sq.tail));
+        self.random.pick(&[tail, tail, (tail + 1) % size])
+    }
+
+    /// The CQs that exist.
+    pub fn cqs(&self) -> Vec<u64> {
+        (0..16).filter(|id| self.console.controller.cq(*id).is_some()).collect()
     }
 
     pub fn sq(&self, id: usize) -> Option<&Sq> {

@@ -98,12 +98,13 @@ impl Generator {
     /// A right line that changes little, for the others to spoil.
     fn sample(&mut self) -> String {
         let (a, b, c) = (self.random.below(16), self.random.below(8), self.random.below(2));
+        let next = (b + 1) % 8;
         let lines = [
             format!("show-sq {a}"),
             format!("show-cq {a}"),
             format!("show-tag {a}"),
-            format!("check-tail 8 {b} {b} {b}"),
-            format!("check-head 8 {b} {b} {b}"),
+            format!("check-tail 8 {b} {b} {next}"),
+            format!("check-head 8 {b} {next} {next}"),
             format!("head {a} {b}"),
             format!("peek {a} {b}"),
             format!("finish {a} {b} {c}"),

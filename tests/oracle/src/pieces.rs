@@ -255,10 +255,8 @@ impl Generator {
 
     /// The completion reader on a CQ's ring as a host would use it, or on other bytes.
     pub fn reader(&mut self) {
-        let ids: Vec<u64> =
-            (0..16).filter(|id| self.console.controller.cq(*id).is_some()).collect();
         let on_queue = self.random.chance(70);
-        let Some(id) = self.random.choose(&ids).filter(|_| on_queue) else {
+        let Some(id) = self.random.choose(&self.cqs()).filter(|_| on_queue) else {
             return self.loose_reader();
         };
         let Some(cq) = self.console.controller.cq(id) else { return };
@@ -316,21 +314,26 @@ impl Generator {
 
     /// The plain doorbell checks, mostly on small rings where every case is met.
     pub fn plain_check(&mut self) {
-        let name = self.random.pick(&["check-tail", "check-head"]);
         let size =
             if self.random.chance(85) { self.random.within(2, 8) } else { self.random.edge() };
-        let mut places = [0; 3];
-        for place in &mut places {
-            let below = self.random.below(size);
-            let edge = self.random.edge();
-            *place = match self.random.weighted(&[90, 5, 2, 3]) {
-                0 => below,
-                1 => size,
-                2 => self.random.lifted(below),
-                _ => edge,
-            };
+        let (head, tail) = (self.place(size), self.place(size));
+        let (name, held) = self.random.pick(&[("check-tail", tail), ("check-head", head)]);
+        let others = [self.place(size), self.place(size)];
+        let other = others.into_iter().find(|place| *place != held);
+        let value = other.filter(|_| !self.random.chance(10)).unwrap_or(held);
+        self.say(&format!("{name} {size} {head} {tail} {value}"));
+    }
+
+    /// Mostly a place in a ring of this size.
+    fn place(&mut self, size: u64) -> u64 {
+        let below = self.random.below(size);
+        let edge = self.random.edge();
+        match self.random.weighted(&[90, 5, 2, 3]) {
+            0 => below,
+            1 => size,
+            2 => self.random.lifted(below),
+            _ => edge,
         }
-        self.say(&format!("{name} {size}{}", joined(&places)));
     }
 
     pub fn show(&mut self) {

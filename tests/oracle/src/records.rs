@@ -58,16 +58,15 @@ impl Generator {
 
     /// A tail write over a few slots, whatever they hold.
     fn tail_record(&mut self) -> Option<Record> {
-        let open: Vec<usize> =
-            self.unmarked_sqs().into_iter().filter(|id| self.room(*id) > 0).collect();
-        let id = self.random.choose(&open)?;
+        let id = self.random.choose(&self.open_sqs())?;
         let (size, tail) = self.sq(id).map(|sq| (sq.size, sq.tail))?;
         let room = self.room(id);
         let most = if self.random.chance(90) { room.min(4) } else { room };
-        let step = if self.random.chance(90) { self.random.within(1, most) } else { 0 };
+        let step = self.random.within(1, most);
         Some(record(TAIL, id as u64, (tail + step) % size))
     }
 
+    /// A head write over some of what waits, now and then over none or with a bit too high.
     fn head_record(&mut self) -> Option<Record> {
         let held = |id: &u64| self.console.controller.cq(*id).is_some_and(|cq| cq.head != cq.tail);
         let full: Vec<u64> = (0..16).filter(held).collect();
@@ -75,8 +74,14 @@ impl Generator {
         let (size, head, tail) =
             self.console.controller.cq(id).map(|cq| (cq.size, cq.head, cq.tail))?;
         let waiting = ring::distance(size, head, tail);
-        let step = if self.random.chance(50) { waiting } else { self.random.within(0, waiting) };
-        Some(record(HEAD, id, (head + step) % size))
+        let lifted = tail | 1 << self.random.within(8, 15);
+        let value = match self.random.weighted(&[49, 45, 4, 2]) {
+            0 => tail,
+            1 => (head + self.random.within(1, waiting)) % size,
+            2 => head,
+            _ => lifted,
+        };
+        Some(record(HEAD, id, value))
     }
 
     /// Finishes a command, mostly one that can be posted.
@@ -93,8 +98,8 @@ impl Generator {
     /// A call that is likely to be refused.
     fn odd_record(&mut self) -> Record {
         match self.random.weighted(&[20, 15, 25, 25, 15]) {
-            0 => self.odd_tail_record(),
-            1 => self.bad_tail_record().unwrap_or_else(|| self.odd_tail_record()),
+            0 => self.shut_tail_record(),
+            1 => self.bad_tail_record().unwrap_or_else(|| self.shut_tail_record()),
             2 => self.odd_head_record(),
             3 => self.odd_finish_record(),
             _ => record(START, 0, 0),
@@ -108,39 +113,38 @@ impl Generator {
         self.random.pick(&[id, id, 16, 17, 16 + id, 128 + id, 255, any])
     }
 
-    /// The value held by a queue that is marked or not there.
-    fn odd_tail_record(&mut self) -> Record {
-        let marked = |id: &u64| self.console.controller.sq(*id).is_some_and(|sq| sq.marked);
-        let marked: Vec<u64> = (0..16).filter(marked).collect();
-        let id = match self.random.choose(&marked) {
-            Some(id) if self.random.chance(50) => id,
-            _ => self.odd_queue(),
-        };
-        let tail = self.console.controller.sq(id).map_or(0, |sq| sq.tail);
-        record(TAIL, id, tail)
+    /// A tail write of an SQ that is marked or not there.
+    fn shut_tail_record(&mut self) -> Record {
+        let odd = self.odd_queue();
+        let id = self.shut_sq(odd);
+        let value = self.tail_or_next(id);
+        record(TAIL, id, value)
     }
 
     /// A value that marks an SQ, mostly where others are left.
     fn bad_tail_record(&mut self) -> Option<Record> {
-        let unmarked = self.unmarked_sqs();
-        if unmarked.len() < 3 && self.random.chance(90) {
+        if !self.may_mark() {
             return None;
         }
-        let id = self.random.choose(&unmarked)?;
+        let id = self.random.choose(&self.unmarked_sqs())?;
         let (size, head, tail) = self.sq(id).map(|sq| (sq.size, sq.head, sq.tail))?;
-        let lifted = tail | 1 << self.random.within(8, 15);
+        let lifted = ring::next(size, tail) | 1 << self.random.within(8, 15);
         let any = self.random.below(size);
         let before = (tail + size - 1) % size;
-        let value = self.random.pick(&[size, size + 1, head, before, any, lifted, lifted, 65_535]);
+        let place = self.random.pick(&[head, before, any]);
+        let above = self.random.pick(&[size, size + 1, 65_535]);
+        let value = self.random.pick(&[tail, lifted, place, above]);
         Some(record(TAIL, id as u64, value))
     }
 
     fn odd_head_record(&mut self) -> Record {
         let id = self.odd_queue();
-        let (size, tail) = self.console.controller.cq(id).map_or((4, 0), |cq| (cq.size, cq.tail));
+        let (size, head, tail) =
+            self.console.controller.cq(id).map_or((4, 0, 0), |cq| (cq.size, cq.head, cq.tail));
         let lifted = tail | 1 << self.random.within(8, 15);
         let any = self.random.below(size);
-        let value = self.random.pick(&[size, (tail + 1) % size, any, lifted, lifted, 65_535]);
+        let odd = self.random.pick(&[size, (tail + 1) % size, any, 65_535]);
+        let value = self.random.pick(&[head, lifted, odd]);
         record(HEAD, id, value)
     }
 

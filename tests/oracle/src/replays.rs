@@ -56,9 +56,7 @@ impl Generator {
 
     /// Writes commands into an SQ that a replayed tail write may submit.
     fn put_behind_a_tail(&mut self) {
-        let open: Vec<usize> =
-            self.unmarked_sqs().into_iter().filter(|id| self.room(*id) > 0).collect();
-        let Some(id) = self.random.choose(&open) else { return };
+        let Some(id) = self.random.choose(&self.open_sqs()) else { return };
         let most = self.random.within(1, 16).min(self.room(id));
         let entries = self.batch(id, most);
         let Some(sq) = self.sq(id) else { return };
@@ -198,8 +196,7 @@ impl Generator {
     /// Looks at a queue, a tag or the bytes of a completion.
     fn look(&mut self) {
         let sqs = self.unmarked_sqs();
-        let cqs: Vec<u64> =
-            (0..16).filter(|id| self.console.controller.cq(*id).is_some()).collect();
+        let cqs = self.cqs();
         match self.random.below(4) {
             0 => match self.random.choose(&sqs) {
                 Some(id) => drop(self.say(&format!("show-sq {id}"))),

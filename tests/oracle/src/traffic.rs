@@ -10,9 +10,7 @@ impl Generator {
     /// Writes some entries behind an SQ's tail and moves the tail over them, in one write or
     /// in two with starts between them.
     pub fn submit(&mut self) {
-        let open: Vec<usize> =
-            self.unmarked_sqs().into_iter().filter(|id| self.room(*id) > 0).collect();
-        match self.random.choose(&open) {
+        match self.random.choose(&self.open_sqs()) {
             Some(id) => {
                 let room = self.room(id);
                 let most = match self.random.weighted(&[35, 50, 15]) {
@@ -22,7 +20,7 @@ impl Generator {
                 };
                 self.submit_to(id, room.min(most));
             }
-            None if self.random.chance(10) => self.tail(),
+            None if self.random.chance(10) => self.shut_tail(),
             None => self.finish(),
         }
     }
@@ -61,7 +59,12 @@ impl Generator {
                 self.say("start");
             }
         }
-        self.say(&format!("tail {id} {}", (tail + count) % size));
+        let value = (tail + count) % size;
+        self.say(&format!("tail {id} {value}"));
+        // Seldom twice, since that marks the SQ; more often the 0 after a wrap.
+        if self.random.chance(if value == 0 { 6 } else { 1 }) && self.may_mark() {
+            self.say(&format!("tail {id} {value}"));
+        }
     }
 
     /// Adds one command, one pair or one broken pair to a batch, of at most `left` entries.
@@ -271,8 +274,48 @@ impl Generator {
         let Some(cq) = self.console.controller.cq(id) else { return };
         let (size, head) = (cq.size, cq.head);
         let waiting = ring::distance(size, head, cq.tail);
-        let step = if self.random.chance(50) { waiting } else { self.random.within(0, waiting) };
-        self.say(&format!("head {id} {}", (head + step) % size));
+        let step = if self.random.chance(50) { waiting } else { self.random.within(1, waiting) };
+        let right = (head + step) % size;
+        if self.random.chance(3) {
+            let lifted = self.random.lifted(right);
+            self.say(&format!("head {id} {lifted}"));
+        }
+        self.say(&format!("head {id} {right}"));
+        if self.random.chance(3) {
+            self.say(&format!("head {id} {right}"));
+        }
+    }
+
+    /// A head write of the value held, at times after another that is refused.
+    pub fn held_head(&mut self) {
+        let Some(id) = self.random.choose(&self.cqs()) else { return };
+        let Some(cq) = self.console.controller.cq(id) else { return };
+        let (size, head, tail) = (cq.size, cq.head, cq.tail);
+        if self.random.chance(30) {
+            self.say(&format!("head {id} {}", (tail + 1) % size));
+        }
+        self.say(&format!("head {id} {head}"));
+        if self.random.chance(30) {
+            self.say(&format!("show-cq {id}"));
+        }
+    }
+
+    /// A head write that comes before its posting, and once more after it: "refused writes do not
+    /// count".
+    pub fn early_head(&mut self) {
+        let ready: Vec<usize> =
+            self.outstanding().into_iter().filter(|tag| self.is_ready(*tag)).collect();
+        let Some(tag) = self.random.choose(&ready) else { return };
+        let Some(sq) = self.command(tag).and_then(|command| self.sq(command.sq)) else { return };
+        let id = sq.cq;
+        let Some(cq) = &self.console.controller.cqs[id] else { return };
+        let (head, next) = (cq.head, ring::next(cq.size, cq.tail));
+        self.say(&format!("head {id} {next}"));
+        if self.random.chance(50) {
+            self.say(&format!("head {id} {head}"));
+        }
+        self.say(&format!("finish {tag} 0 0"));
+        self.say(&format!("head {id} {next}"));
     }
 
     /// Mostly the number of a queue that may be there, else one above 15.
@@ -298,36 +341,32 @@ impl Generator {
         }
     }
 
-    /// A tail write of the value held, of any SQ, marked or not there.
-    fn tail(&mut self) {
-        let id = self.any_id();
-        let tail = self.console.controller.sq(id).map_or(0, |sq| sq.tail);
-        self.say(&format!("tail {id} {tail}"));
+    /// A tail write of an SQ that is marked or not there.
+    fn shut_tail(&mut self) {
+        let any = self.any_id();
+        let id = self.shut_sq(any);
+        let value = self.tail_or_next(id);
+        self.say(&format!("tail {id} {value}"));
     }
 
     /// A tail write that is likely to be refused and to mark the SQ, and what comes after.
     pub fn bad_tail(&mut self) {
-        self.tail();
-        let unmarked = self.unmarked_sqs();
-        if unmarked.len() < 2 && self.random.chance(70) {
+        self.shut_tail();
+        if !self.may_mark() {
             return;
         }
-        let Some(id) = self.random.choose(&unmarked) else { return };
+        let Some(id) = self.random.choose(&self.unmarked_sqs()) else { return };
         let Some(sq) = self.sq(id) else { return };
         let (size, head, tail) = (sq.size, sq.head, sq.tail);
         let edge = self.random.edge();
         let any = self.random.below(size);
-        let lifted = self.random.lifted(tail);
-        let value = self.random.pick(&[
-            size,
-            size + 1,
-            head,
-            (tail + size - 1) % size,
-            any,
-            lifted,
-            u64::MAX,
-            edge,
-        ]);
+        let before = (tail + size - 1) % size;
+        let value = match self.random.weighted(&[25, 40, 20, 15]) {
+            0 => tail,
+            1 => self.random.lifted(ring::next(size, tail)),
+            2 => self.random.pick(&[head, before, any]),
+            _ => self.random.pick(&[size, size + 1, u64::MAX, edge]),
+        };
         self.say(&format!("tail {id} {value}"));
         if self.random.chance(50) {
             let again = self.random.pick(&[tail, value]);
@@ -394,7 +433,7 @@ impl Generator {
     /// Fills every SQ and starts until all are empty, so that turns, bursts and credits are
     /// seen at work; now and then an SQ gets more meanwhile.
     pub fn crowd(&mut self) {
-        for id in self.unmarked_sqs() {
+        for id in self.open_sqs() {
             let most = self.random.within(1, 9).min(self.room(id));
             self.submit_to(id, most);
         }
@@ -427,7 +466,9 @@ impl Generator {
             }
             let step = self.room(id).min(50);
             let tail = self.sq(id).map_or(0, |sq| sq.tail);
-            self.say(&format!("tail {id} {}", (tail + step) % size.max(1)));
+            if step > 0 {
+                self.say(&format!("tail {id} {}", (tail + step) % size));
+            }
             while self.say("start") {}
             self.finish_all();
         }
@@ -439,10 +480,17 @@ impl Generator {
             let Some(command) = self.command(tag) else { continue };
             let cq = self.sq(command.sq).map_or(0, |sq| sq.cq);
             if !self.is_ready(tag) {
-                let tail = self.console.controller.cqs[cq].as_ref().map_or(0, |cq| cq.tail);
-                self.say(&format!("head {cq} {tail}"));
+                self.take_all(cq);
             }
             self.say(&format!("finish {tag} 0 {tag}"));
+        }
+    }
+
+    /// Takes every completion off a CQ, if there is one.
+    fn take_all(&mut self, id: usize) {
+        let cq = self.console.controller.cqs[id].as_ref().filter(|cq| cq.head != cq.tail);
+        if let Some(tail) = cq.map(|cq| cq.tail) {
+            self.say(&format!("head {id} {tail}"));
         }
     }
 }
