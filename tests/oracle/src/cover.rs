@@ -2,6 +2,7 @@
 
 use crate::arbiter::Candidates;
 use crate::console::{lines, Console, Outcome, FORMS};
+use crate::cover_doorbells::{self, Doorbells};
 use crate::cover_replay::{self, record_events, Replay};
 use crate::entry::Submission;
 use crate::line::{number, words};
@@ -13,7 +14,7 @@ use std::collections::BTreeMap;
 use std::fmt::Write;
 
 /// Everything counted under a name, for mechanism 0 and for mechanism 1.
-const EVENTS: [&str; 49] = [
+const EVENTS: [&str; 48] = [
     "completion writer: status and room are wrong",
     "create: accepted",
     "create: two or more faults at once",
@@ -56,7 +57,6 @@ const EVENTS: [&str; 49] = [
     "start: verdict 0Ah",
     "start: weight byte of 80h or more, two levels wait",
     "tail: marks",
-    "tail: same value",
     "walk: 18 for PRP1 before 21",
     "walk: 18 for an entry that is a multiple of 4,096",
     "walk: 18 for a pointer that is a multiple of 4,096",
@@ -101,13 +101,15 @@ struct Cover {
     firsts: BTreeMap<u64, u64>,
     /// Whether the controller has started nothing.
     fresh: bool,
+    doorbells: Doorbells,
 }
 
 /// The table for a script.
 pub fn table(script: &[u8]) -> String {
     let mut cover = Cover { console: Some(Console::new()), ..Cover::default() };
     let events = EVENTS.into_iter().chain(BURSTS).chain(POINTERS).map(str::to_string);
-    cover.events = events.chain(cover_replay::events()).map(|event| (event, [0; 2])).collect();
+    let events = events.chain(cover_doorbells::events()).chain(cover_replay::events());
+    cover.events = events.map(|event| (event, [0; 2])).collect();
     for (line, ended) in lines(script) {
         cover.take(line, ended);
     }
@@ -158,8 +160,12 @@ impl Cover {
         let credits: u64 = console.controller.arbiter().credits().iter().sum();
         let candidates = console.controller.candidates();
         let verdict = asked.first().and_then(|tag| verdict(console, *tag));
+        let before = console.controller.clone();
         let outcome = console.take(line, ended);
         let Outcome::Numbers(name, answer) = &outcome else { return outcome };
+        for event in self.doorbells.events(&before, name, &asked, answer[0]) {
+            self.count(console, &event);
+        }
         match *name {
             "start" => {
                 self.started(console, answer, free);
@@ -221,12 +227,6 @@ impl Cover {
             }
             ([b'c', b'r', ..], [id, size, base, cq, class]) => {
                 controller.create_sq_faults(console.lent, *id, *size, *base, *cq, *class)
-            }
-            ([b't', ..], [id, value]) => {
-                if controller.sq(*id).is_some_and(|sq| sq.tail == *value && !sq.marked) {
-                    self.count(console, "tail: same value");
-                }
-                return;
             }
             _ => return,
         };

@@ -7,7 +7,10 @@ use crate::replay::{needed, Call, MALFORMED, RECORD, SHORT};
 use crate::ring;
 
 /// The events that are not counted for each length or place.
-const EVENTS: [&str; 19] = [
+const EVENTS: [&str; 22] = [
+    "replay: 10 for the head held",
+    "replay: 10 for the tail held",
+    "replay: 11 before 10 for the tail held",
     "replay: 10 for a value that is right in its low byte",
     "replay: 128 records",
     "replay: 14 for a tag above 63",
@@ -127,7 +130,11 @@ pub fn record_events(before: &Console, record: &[u8], answer: &[u8]) -> Vec<Stri
     let refusal = u64::from(answer[1]);
     let result = get(answer, 2, 2);
     let unknown = !(1..=4).contains(&call);
+    let (tail_held, head_held) = value_held(before, record);
     let mut events = reached([
+        ("replay: 10 for the head held", head_held && refusal == 10),
+        ("replay: 10 for the tail held", tail_held && refusal == 10),
+        ("replay: 11 before 10 for the tail held", tail_held && refusal == 11),
         ("replay: 10 for a value that is right in its low byte", low_byte_right(before, record)),
         ("replay: 14 for a tag above 63", call == 4 && id > 63 && refusal == 14),
         (
@@ -154,6 +161,16 @@ fn with(record: &[u8], place: usize, byte: u8) -> Vec<u8> {
     let mut changed = record.to_vec();
     changed[place] = byte;
     changed
+}
+
+/// Whether the record writes the tail that its SQ holds, or the head that its CQ holds.
+fn value_held(before: &Console, record: &[u8]) -> (bool, bool) {
+    let controller = &before.controller;
+    match Call::of(record) {
+        Ok(Call::Tail { sq, value }) => (controller.sq(sq).is_some_and(|q| q.tail == value), false),
+        Ok(Call::Head { cq, value }) => (false, controller.cq(cq).is_some_and(|q| q.head == value)),
+        _ => (false, false),
+    }
 }
 
 /// Whether a doorbell value above 255 is wrong, and its low byte by itself would be right.

@@ -7,6 +7,7 @@ mod arbiter;
 mod compare;
 mod console;
 mod cover;
+mod cover_doorbells;
 mod cover_replay;
 mod creates;
 mod entry;
