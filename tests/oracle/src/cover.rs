@@ -14,8 +14,10 @@ use std::collections::BTreeMap;
 use std::fmt::Write;
 
 /// Everything counted under a name, for mechanism 0 and for mechanism 1.
-const EVENTS: [&str; 48] = [
+const EVENTS: [&str; 50] = [
     "completion writer: status and room are wrong",
+    "create: 7 alone, SQ 0 on another CQ",
+    "create: 7 alone, another SQ on CQ 0",
     "create: accepted",
     "create: two or more faults at once",
     "finish: 02h posted",
@@ -230,8 +232,13 @@ impl Cover {
             }
             _ => return,
         };
-        if faults.iter().filter(|(_, applies)| *applies).count() > 1 {
-            self.count(console, "create: two or more faults at once");
+        let applying = faults.iter().filter(|(_, applies)| *applies).map(|(number, _)| *number);
+        match applying.collect::<Vec<u64>>()[..] {
+            [7] if controller.cq(asked[3]).is_none() => {}
+            [7] if asked[0] == 0 => self.count(console, "create: 7 alone, SQ 0 on another CQ"),
+            [7] => self.count(console, "create: 7 alone, another SQ on CQ 0"),
+            [_, _, ..] => self.count(console, "create: two or more faults at once"),
+            _ => {}
         }
     }
 

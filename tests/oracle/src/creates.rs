@@ -14,12 +14,13 @@ impl Generator {
         }
         let word = self.word();
         let sound = self.chapter % 2;
-        let mechanism = match self.random.weighted(&[75, 17, 8]) {
+        let edge = self.random.edge();
+        let mechanism = match self.random.weighted(&[70, 20, 10]) {
             0 => sound,
-            1 => self.random.edge(),
+            1 => self.random.pick(&[2, edge]),
             _ => self.random.lifted(sound),
         };
-        if !self.say(&format!("controller {mechanism} {word}")) && self.random.chance(70) {
+        if !self.say(&format!("controller {mechanism} {word}")) && self.random.chance(80) {
             self.say(&format!("controller {sound} {word}"));
         }
         // Few queues, several SQs on few CQs, or all sixteen.
@@ -28,24 +29,37 @@ impl Generator {
             1 => (self.random.within(1, 2), self.random.within(3, 8)),
             _ => (15, 15),
         };
-        let sizes = if self.chapter % 9 == 0 { 3 } else { self.random.weighted(&[65, 20, 12, 3]) };
+        // Large rings above all where turns may be long.
+        let large = self.burst() > 5 && self.random.chance(50);
+        let sizes = if large { 3 } else { self.random.weighted(&[65, 20, 12, 3]) };
         // With or without the Admin queues.
         let first = u64::from(self.random.chance(30));
         for id in first..=cqs {
             self.create_cq(id, sizes);
         }
+        // SQ 0 may name CQ 0 alone.
+        if first == 1 && self.random.chance(70) {
+            let cq = self.unfitting_cq(0);
+            self.create_sq(0, cq, sizes);
+        }
         for id in first..=sqs {
-            self.create_sq(id, sizes);
+            let cq = self.fitting_cq(id);
+            self.create_sq(id, cq, sizes);
             if self.random.chance(15) {
                 self.odd_create();
             }
         }
     }
 
-    /// All bursts by turns in both mechanisms, weights that are small, small but for their
-    /// highest bit, or any, and something in the ignored bits.
+    /// All burst numbers by turns in both mechanisms.
+    fn burst(&self) -> u64 {
+        self.chapter / 2 % 8
+    }
+
+    /// Weights that are small, small but for their highest bit, or any, beside the burst, and
+    /// something in the ignored bits.
     fn word(&mut self) -> u64 {
-        let mut word = self.chapter / 2 % 8 + 8 * self.random.below(4).saturating_sub(2);
+        let mut word = self.burst() + 8 * self.random.below(4).saturating_sub(2);
         for shift in [8, 16, 24] {
             let weight = match self.random.weighted(&[60, 20, 20]) {
                 0 => self.random.below(4),
@@ -72,10 +86,9 @@ impl Generator {
         self.say(&format!("create-cq {id} {size} {base}"));
     }
 
-    fn create_sq(&mut self, id: u64, sizes: usize) {
+    fn create_sq(&mut self, id: u64, cq: u64, sizes: usize) {
         let size = self.size(sizes);
         let base = self.free_base(size, SUBMISSION);
-        let cq = self.fitting_cq(id);
         let class = self.random.below(4);
         self.say(&format!("create-sq {id} {size} {base} {cq} {class}"));
     }
@@ -88,6 +101,11 @@ impl Generator {
             Some(cq) if sq != 0 => cq,
             _ => u64::from(sq != 0),
         }
+    }
+
+    /// CQ 0 for all but SQ 0, any other existing one for SQ 0.
+    fn unfitting_cq(&mut self, sq: u64) -> u64 {
+        self.fitting_cq(u64::from(sq == 0))
     }
 
     /// The ends of existing rings, each brought up to a multiple of 4,096.
@@ -135,11 +153,12 @@ impl Generator {
         }
         let edge = self.random.edge();
         let fitting = self.fitting_cq(id);
-        let cq = match self.random.weighted(&[80, 8, 6, 3, 3]) {
+        let cq = match self.random.weighted(&[75, 6, 8, 5, 3, 3]) {
             0 => fitting,
-            1 => self.random.below(16),
-            2 => self.random.pick(&[0, 16, 17, 255, 256]),
-            3 => self.random.lifted(fitting),
+            1 => self.unfitting_cq(id),
+            2 => self.random.below(16),
+            3 => self.random.pick(&[16, 17, 255, 256]),
+            4 => self.random.lifted(fitting),
             _ => edge,
         };
         let sound = self.random.below(4);
@@ -234,7 +253,11 @@ impl Generator {
                 0 | 1 => {
                     self.say("start");
                 }
-                2 | 3 => self.finish(),
+                2 => self.finish(),
+                3 => {
+                    let tag = self.random.below(64);
+                    self.finish_tag(tag);
+                }
                 4 => self.odd_create(),
                 5 => self.reader(),
                 6 => self.replay(Mood::Normal),

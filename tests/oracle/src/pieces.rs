@@ -2,7 +2,7 @@
 //! checks, shows and the memory's own commands.
 
 use crate::console::{submission_numbers, MEMORY};
-use crate::entry::Submission;
+use crate::entry::{Submission, STATUS_MAX};
 use crate::generate::{Generator, SCRATCH};
 use crate::traffic::joined;
 
@@ -197,10 +197,12 @@ impl Generator {
                 self.say(&format!("read-sqe {at} {room}"));
             }
             1 => {
-                let room = self.entry_room(16);
                 let edge = self.random.edge();
                 let wrong = self.random.pick(&[32_768, 65_536, edge]);
                 let status = if self.random.chance(65) { self.random.below(32_768) } else { wrong };
+                // In every other case both are wrong.
+                let short = status > STATUS_MAX && self.random.chance(50);
+                let room = if short { self.random.below(16) } else { self.entry_room(16) };
                 let numbers =
                     [self.random.below(1 << 32), self.random.below(65_536), self.random.below(16)];
                 let (cid, tag) = (self.random.below(65_536), self.random.pick(&[0, 1, 2, 3, edge]));

@@ -235,7 +235,7 @@ impl Generator {
         self.random.pick(&[64, 65, 1 << 32, u64::MAX, tag + 64, lifted])
     }
 
-    fn finish_tag(&mut self, tag: u64) {
+    pub fn finish_tag(&mut self, tag: u64) {
         let any = self.random.below(32_768);
         let edge = self.random.edge();
         let status = match self.random.weighted(&[58, 40, 2]) {
