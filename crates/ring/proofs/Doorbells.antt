@@ -12,30 +12,29 @@ use Rattle.rules.proofs.Tests.{and-true, and-no, range}
 use Rattle.rules.proofs.Tables.{Unapplied, passed, append-refused, append-passed}
 use Rattle.rules.proofs.Exactly.{says-is, says-lt, says-le, says-and, says-as, says-same}
 use Rattle.ring.specs.Slots.{distance}
-use Rattle.ring.specs.Doorbell.{validTail, validHead, placeRules, placeRefusal, checked}
+use Rattle.ring.specs.Doorbell.{differs, validTail, validHead, placeRules, placeRefusal, checked}
 use Rattle.ring.proofs.Steps.{distance-self, distance-other, distance-over}
+
+-- what both doorbells ask of a value: it is below the size, its distance is right, and it is not held
+asks : (size held v a b : ℕ) → ((ltb v size && leb a b && differs held v) ≡ true) ↔ ((v < size) × (a ≤ b) × (v ≡ held → ⊥))
+asks size held v a b = (
+  λ e. let f = and-true _ _ e in
+      let g = and-true _ _ (f .0) in
+      (ltb-true _ _ (g .0), leb-true _ _ (g .1), eqb-false _ _ (not-true _ (f .1))),
+  λ h. rw (lt-ltb _ _ (h .0), le-leb _ _ (h .1), ne-eqb _ _ (h .2)),
+)
 
 -- a value is valid exactly if it is below the size, as a tail no nearer to the head, as a head no farther than the tail, and not held
 module _ (size head tail v : ℕ) where
   pub valid-tail : (validTail size head tail v ≡ true)
       ↔ ((v < size) × (distance size head tail ≤ distance size head v) × (v ≡ tail → ⊥))
   unfolding validTail
-  valid-tail = (
-    λ e. let a = and-true _ _ e in
-        let b = and-true _ _ (a .0) in
-        (ltb-true _ _ (b .0), leb-true _ _ (b .1), eqb-false _ _ (not-true _ (a .1))),
-    λ h. rw (lt-ltb _ _ (h .0), le-leb _ _ (h .1), ne-eqb _ _ (h .2)),
-  )
+  valid-tail = asks size tail v _ _
 
   pub valid-head : (validHead size head tail v ≡ true)
       ↔ ((v < size) × (distance size head v ≤ distance size head tail) × (v ≡ head → ⊥))
   unfolding validHead
-  valid-head = (
-    λ e. let a = and-true _ _ e in
-        let b = and-true _ _ (a .0) in
-        (ltb-true _ _ (b .0), leb-true _ _ (b .1), eqb-false _ _ (not-true _ (a .1))),
-    λ h. rw (lt-ltb _ _ (h .0), le-leb _ _ (h .1), ne-eqb _ _ (h .2)),
-  )
+  valid-head = asks size head v _ _
 
 -- the value held is never valid
 module _ (size head tail : ℕ) where
