@@ -7,6 +7,7 @@ use lib.Dec.{ltb}
 use lib.ListN.{length}
 use borrow.Author.Tests.{le-ltb, eq-eqb}
 use Rattle.rules.specs.Rules.{firstMatch}
+use Rattle.rules.proofs.Exactly.{says-lt, says-as, says-same}
 use Rattle.le.specs.Memory.{Memory}
 use Rattle.ring.specs.Slots.{wrongSize}
 use Rattle.controller.specs.Controller.{Controller}
@@ -16,17 +17,18 @@ use Rattle.controller.specs.State.{withSq, withCq}
 use Rattle.controller.specs.Answers.{outcome, done}
 use Rattle.controller.specs.Calls.{ofNumber}
 use Rattle.controller.proofs.Settled.{number-refused, accepted}
-use Rattle.queues.proofs.Bounds.{same-test}
 
 -- the four cases in which the code tests whether two ranges have a byte in common
 module _ (a k b l : ℕ) where
   pub share-first : a ≤ b → b - a < k → ltb 0 l ≡ shareByte a k b l
   unfolding shareByte
-  share-first h g = same-test (max a b) (min (a + k) (b + l)) 0 l (λ p. omega arith) (λ p. omega arith)
+  share-first h g =
+      says-same (says-lt 0 l) (says-as (says-lt (max a b) (min (a + k) (b + l))) (λ p. omega arith) (λ p. omega arith))
 
   pub share-second : b < a → a - b < l → ltb 0 k ≡ shareByte a k b l
   unfolding shareByte
-  share-second h g = same-test (max a b) (min (a + k) (b + l)) 0 k (λ p. omega arith) (λ p. omega arith)
+  share-second h g =
+      says-same (says-lt 0 k) (says-as (says-lt (max a b) (min (a + k) (b + l))) (λ p. omega arith) (λ p. omega arith))
 
   pub apart-first : a ≤ b → k ≤ b - a → false ≡ shareByte a k b l
   unfolding shareByte
