@@ -1,8 +1,11 @@
-// What bench/run times: batches of commands that go through a controller, beside a plain C program of the same loop. The plan
-// stands on one line of standard input, and a digest of all answers goes to standard output.
+// What bench/run times: batches of commands that go through a controller, or of an arbiter's choices, beside plain C programs of the
+// same loops. The plan stands on one line of standard input, and a digest of all answers goes to standard output.
 ghost use Prim.Native.Nat.{_<_, _≤_};
 ghost use lib.ListN.{length};
 ghost use Rattle.store.specs.Held.{Reached};
+use arbiter::Arbiter;
+use arbiter::Candidates;
+use arbiter::Chosen;
 use controller::Finished;
 use controller::Started;
 use doorbells::head_write;
@@ -34,6 +37,14 @@ const SUBMITTED: u64 = 62;
 // A burst of 4, and the weights 2, 4 and 8.
 const WORD: u32 = 0x07030102;
 
+// A burst of 1, so that every choice names the next turn holder, and a low weight of 256.
+const TURNS: u32 = 0xFF00;
+
+// The queues but queue 0, and the choices of a batch.
+const OTHERS: usize = 15;
+
+const CHOICES: u64 = 960;
+
 // What the batches are made of.
 const TAILS: u64 = 1;
 
@@ -41,9 +52,16 @@ const PAIRS: u64 = 3;
 
 const HELD: u64 = 4;
 
+const NEAREST: u64 = 5;
+
+const FARTHEST: u64 = 6;
+
+const BUSY: u64 = 7;
+
 // `kind` is 0 for an empty loop, 1 for tail writes that are accepted, 2 for commands, 3 for fused pairs and 4 for head writes of the
-// value held, which are refused; `busy` is the number of queues with commands, and `outstanding` that of the commands which stay
-// outstanding beside those of the batch.
+// value held, which are refused; 5 to 7 are choices, where one queue is busy and comes right after the turn holder, where it is the
+// holder and comes last, and where many are busy. `busy` is the number of queues with commands, and `outstanding` that of the commands
+// which stay outstanding beside those of the batch.
 struct Plan {
     kind: u64,
     mechanism: u64,
@@ -272,6 +290,61 @@ fn trips(
     }
 }
 
+// The candidates of a choice: one of queues 1 to 15 after another, always queue 1, or all queues, without queue 0 if fewer are busy.
+fn mask_of(p: Plan, place: usize) -> u16 {
+    if p.kind == NEAREST {
+        return 2u16 << (place % OTHERS);
+    }
+    if p.kind == FARTHEST {
+        return 2;
+    }
+    if p.busy < QUEUES { 65534 } else { 65535 }
+}
+
+fn masks_of(p: Plan) -> [u16; OTHERS] {
+    let mut masks = [0u16; OTHERS];
+    let mut i: usize = 0;
+    while i < OTHERS {
+        masks[i] = mask_of(p, i);
+        i += 1;
+    }
+    masks
+}
+
+fn next_place(place: usize) -> usize
+    ensures { λ r. ⌜ r < 15 ⌝ }
+{
+    if place < OTHERS - 1 { place + 1 } else { 0 }
+}
+
+// A batch of choices of a fresh arbiter; under mechanism 1 all queues are of low priority. The digest as in `tails`.
+fn choices(mut run: Run, p: Plan) -> Run {
+    let masks = masks_of(p);
+    let mut arbiter = Arbiter::new(p.mechanism == 1, TURNS);
+    let mut digest = mixed(run.digest, 1);
+    let mut place: usize = 0;
+    let mut i: u64 = 0;
+    while i < CHOICES {
+        let mask = masks[place];
+        let found = Candidates {
+            all: mask,
+            urgent: 0,
+            high: 0,
+            medium: 0,
+            low: mask,
+        };
+        let Chosen::Queue(id, left) = arbiter.choose(found) else {
+            return run;
+        };
+        arbiter = left;
+        digest = mixed(digest, id as u64);
+        place = next_place(place);
+        i += 1;
+    }
+    run.digest = digest;
+    run
+}
+
 // The loop without calls.
 fn idle(mut run: Run, n: u64) -> Run {
     let mut digest = run.digest;
@@ -315,6 +388,9 @@ fn batch(state: &mut [u64; WORDS], run: Run, memory: &mut [u8; MEMORY_BYTES], p:
     }
     if p.kind == HELD {
         return held(state, run, n);
+    }
+    if NEAREST <= p.kind {
+        return choices(run, p);
     }
     if p.kind == PAIRS {
         return round(state, run, memory, p.busy, n / 2, 2, p.outstanding + 1);
@@ -382,7 +458,7 @@ fn plan_of(line: &[u8]) -> Plan
     let outstanding = next_word(line, busy.end);
     let batches = next_word(line, outstanding.end);
     Plan {
-        kind: number(line, kind, HELD),
+        kind: number(line, kind, BUSY),
         mechanism: number(line, mechanism, 1),
         busy: number(line, busy, QUEUES),
         outstanding: number(line, outstanding, 63),

@@ -1,0 +1,26 @@
+-- `rounds::masks_of` is safe. Assumes nothing.
+use Prim.Native.Nat.{_≤_, _-_}
+use borrow.Author.Needs.{needs}
+use Rattle.rounds.proofs.masks_of.Statement.{statement}
+use Rattle.rounds.proofs.masks_of.Tie as tie
+
+abbrev Inv-loop : tie.InvT-loop
+Inv-loop p masks₀ i₀ masks i = i ≤ 15
+
+abbrev μ-loop : tie.MeasureT-loop
+μ-loop p masks₀ i₀ masks i = 15 - i
+
+pub masks-of-spec : {M : Type 1} → statement M
+masks-of-spec =
+    tie.close
+    (tie.spec
+    Inv-loop
+    μ-loop
+    (λ c. search needs)
+    (λ c κs. search needs)
+    (λ c. search needs)
+    (λ c. search needs)
+    (λ c. search needs)
+    (λ c. search needs)
+    (λ c. search needs)
+    (λ c. search needs))
