@@ -123,6 +123,7 @@ void read_only(struct guarded guarded, bool yes);
 void fixed_cases(void);
 void controller_cases(void);
 void replay_cases(void);
+void all_turns(void);
 void random_calls(uint64_t calls);
 void random_controllers(uint64_t calls);
 void random_replays(uint64_t replays);

@@ -1,6 +1,6 @@
 /*
- * Calls every function of bellrafter.h: first the fixed cases, each with the answer that it must have, then random
- * calls, each compared with the reference.
+ * Calls every function of bellrafter.h: first the fixed cases, each with the answer that it must have, then every case
+ * of the turn rule, then random calls, each compared with the reference.
  *
  * host [SEED [CALLS]]   CALLS random calls of each function that needs no controller, 20 times as many of controllers,
  *                       and one replay for each 20
@@ -21,6 +21,7 @@ int main(int argc, char **argv)
     controller_cases();
     replay_cases();
     printf("fixed cases: %" PRIu64 " passed, %" PRIu64 " calls of the controller\n", passed, calls_made);
+    all_turns();
     seed_random(seed);
     random_calls(calls);
     random_controllers(20 * calls);
