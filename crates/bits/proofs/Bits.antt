@@ -3,12 +3,12 @@ use Prim.Native.Nat.{ℕ, zero, suc, _+_, _-_, _*_, _/_, _%_, _^_, _≤_, _<_}
 use mathlib.Core.Bool.{true, false, not}
 use mathlib.Core.Logic.{_⊎_, inl, inr, ⊎-elim}
 use mathlib.Core.Path.{_≡_, refl, sym, ap, _∙_}
-use native.Mathlib.Nat.{mod-lt, zero-lt-suc, one-mul}
+use native.Mathlib.Nat.{mod-lt, zero-lt-suc, one-mul, mul-assoc, pow-suc}
 use native.Mathlib.Numerals.{one-add}
 use native.Mathlib.Omega.{arith}
 use lib.Count.{ones, ones-step}
 use lib.Dec.{eqb, lit<}
-use lib.Pow.{shr-shr, shl-exact}
+use lib.Pow.{shr-shr, shl-exact, high}
 use borrow.Author.Tests.{eq-eqb, ne-eqb, eqb-true, eqb-false}
 use Rattle.rules.proofs.Tests.{lt-or-ge, clash}
 use Rattle.bits.specs.Bits.{bit, isSet}
@@ -66,6 +66,29 @@ set-high (suc k) x (suc n) h l = set-suc x n ∙ set-high k (x / 2) n (omega ari
 pub set-within : (k x n : ℕ) → x < 2 ^ k → isSet x n ≡ true → n < k
 set-within k x n h e =
     ⊎-elim (λ (l : n < k). l) (λ (l : k ≤ n). absurd (clash e (set-high k x n h l))) (lt-or-ge n k)
+
+-- ---- two numbers in one: y above the k bits of x
+
+-- a bit of what a shift leaves stood k further up
+pub set-shr : (k x n : ℕ) → isSet (x / 2 ^ k) n ≡ isSet x (k + n)
+unfolding isSet
+set-shr k x n = ap (λ (y : ℕ). eqb (y % 2) 1) (shr-shr x k n)
+
+pub set-above : (k y x n : ℕ) → x < 2 ^ k → isSet (y * 2 ^ k + x) (k + n) ≡ isSet y n
+set-above k y x n h = sym (set-shr k (y * 2 ^ k + x) n) ∙ ap (λ (z : ℕ). isSet z n) (high y k h)
+
+twofold : (k y : ℕ) → y * 2 ^ suc k ≡ y * 2 ^ k * 2
+twofold k y = ap (λ (p : ℕ). y * p) (pow-suc 2 k) ∙ sym (mul-assoc y (2 ^ k) 2)
+
+pub set-under : (k y x n : ℕ) → n < k → isSet (y * 2 ^ k + x) n ≡ isSet x n
+unfolding isSet
+set-under zero y x n l = absurd (omega arith)
+set-under (suc k) y x zero l = ap (λ (d : ℕ). eqb d 1) {x = bit (y * 2 ^ suc k + x) 0} {y = bit x 0} (omega (arith, twofold k y))
+set-under (suc k) y x (suc n) l =
+    set-suc _ n
+    ∙ ap (λ (z : ℕ). isSet z n) {y = y * 2 ^ k + x / 2} (omega (arith, twofold k y))
+    ∙ set-under k y (x / 2) n (omega arith)
+    ∙ sym (set-suc x n)
 
 -- ---- the complement of a number of k bits has the bits that the number has not
 
