@@ -1,14 +1,15 @@
 -- Who is served next in a group, said by comparing ids, and what is left of the turn. Assumes nothing.
-use Prim.Native.Nat.{ℕ, zero, suc, _+_, _-_, _%_, _≤_, _<_}
+use Prim.Native.Nat.{ℕ, zero, suc, _+_, _-_, _%_, _^_, _≤_, _<_}
 use mathlib.Core.Bool.{Bool, true, false}
 use mathlib.Core.Logic.{_⊎_, inl, inr, ⊎-elim, _↔_}
 use mathlib.Core.Path.{_≡_, refl, sym, ap, _∙_}
+use native.Mathlib.Nat.{eq-zero-or-pos}
 use native.Mathlib.Numerals.{add-one}
 use native.Mathlib.Omega.{arith}
 use lib.Dec.{ltb, lit<}
 use borrow.Author.Tests.{lt-ltb, ltb-true, ltb-false}
 use Rattle.rules.proofs.Tests.{bool-cases, lt-or-ge, and-no}
-use Rattle.bits.specs.Bits.{first}
+use Rattle.bits.specs.Bits.{isSet, first}
 use Rattle.bits.proofs.First.{first-hit, first-below, first-from}
 use Rattle.arbiter.specs.declared.Remainder.{Remainder}
 use Rattle.arbiter.specs.declared.Remainder.the-variants.{Left, NoLimit}
@@ -17,7 +18,7 @@ use Rattle.arbiter.specs.declared.Next.{Next}
 use Rattle.arbiter.specs.declared.Next.the-variants.{Id, Nobody}
 use Rattle.arbiter.specs.declared.Turn.the-variants.{Served, Idle}
 use Rattle.arbiter.specs.Turns.{start, nextAfter, takes, turn}
-use Rattle.arbiter.proofs.Turns.{NoneNearer, next-is, next-none}
+use Rattle.arbiter.proofs.Turns.{NoneNearer, next-is, next-none, next-found, next-zero}
 
 module _ (p : ℕ → Bool) where
   -- no queue from a on and below b is a candidate
@@ -105,6 +106,14 @@ module _ (p : ℕ → Bool) where
         go : (x : Next) → Found x → x ≡ Nobody → None 0 16
         go (Id k) c e = let q : _≡_ {A = ℕ} 0 1 = cc in absurd (omega arith)
         go Nobody n e = n
+
+-- "none exactly if the number is 0": the group's candidates are a number of 16 bits
+pub nobody-exact : (m : ℕ) → m < 2 ^ 16 → (h : ℕ) → (nextAfter (isSet m) h ≡ Nobody) ↔ (m ≡ 0)
+nobody-exact m f h = (
+  λ e. ⊎-elim (λ (z : m ≡ 0). z) (λ (p : 0 < m). let q : _≡_ {A = ℕ} 0 1 = cc (e, next-found m h f p) in absurd (omega arith))
+      (eq-zero-or-pos m),
+  λ z. sym (next-zero m h z),
+)
 
 -- ---- what a turn leaves
 

@@ -125,20 +125,18 @@ fn lower(r: Remainder) -> Remainder
     }
 }
 
-// The next candidate after the holder: ids one by one, wrapping, the holder last.
+// The next candidate after the holder, wrapping, the holder last. The mask stands twice in a row; from the bit after the holder's on, the
+// candidates come in the order of their turns, and the trailing zeros are the ids that are passed over.
 fn next_turn(mask: u16, holder: u32) -> Next
     ensures { λ r. ⌜ r ≡ nextAfter (isSet mask) holder ⌝ }
 {
-    let from = holder % 16;
-    let mut step = 1u32;
-    while step <= 16 {
-        let id = (from + step) % 16;
-        if is_candidate(mask, id) {
-            return Next::Id(id);
-        }
-        step += 1;
+    if mask == 0 {
+        return Next::Nobody;
     }
-    Next::Nobody
+    let after = holder % 16 + 1;
+    let twice = (mask as u32) * 65537;
+    let passed = u32::trailing_zeros(twice >> after);
+    Next::Id((after + passed) % 16)
 }
 
 // Queue `id` is served out of the remainder `r`, and holds the turn.
