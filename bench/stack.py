@@ -243,24 +243,29 @@ class Program:
         return best + (outside,)
 
 
-def main():
+def report(usage, tell):
+    """Tells of each function that the command line names; the exit status is 0 if there is one and all could be read."""
     if len(sys.argv) < 3:
-        sys.exit(__doc__.split("\n\n")[1])
+        sys.exit(usage.split("\n\n")[1])
     program = Program(sys.argv[1])
     names = sys.argv[2:]
     wanted = [f for f in program.functions.values() if "@plt" not in f.name and any(name in f.name for name in names)]
     bad = not wanted
     for function in wanted:
         try:
-            size, chain, outside = program.deepest(function)
-            print("%8d  %s" % (size, " > ".join(chain)))
-            if outside:
-                print("%8s  outside: %s" % ("", ", ".join(sorted(outside))))
+            tell(program, function)
         except Unread as problem:
             print("%8s  %s: %s" % ("not read", function.name, problem))
             bad = True
     sys.exit("no function has such a name" if not wanted else int(bad))
 
 
+def tell_stack(program, function):
+    size, chain, outside = program.deepest(function)
+    print("%8d  %s" % (size, " > ".join(chain)))
+    if outside:
+        print("%8s  outside: %s" % ("", ", ".join(sorted(outside))))
+
+
 if __name__ == "__main__":
-    main()
+    report(__doc__, tell_stack)

@@ -10,7 +10,7 @@ what cannot be read.
 import sys
 
 sys.dont_write_bytecode = True
-from stack import Program, Reading, Unread  # noqa: E402
+from stack import Reading, Unread, report  # noqa: E402
 
 
 class Ways:
@@ -59,21 +59,10 @@ def longest(program, function, above=()):
     return Ways(program, function, above + (function,)).follow(0)
 
 
-def main():
-    if len(sys.argv) < 3:
-        sys.exit(__doc__.split("\n\n")[1])
-    sys.setrecursionlimit(100000)
-    program = Program(sys.argv[1])
-    wanted = [f for f in program.functions.values() if any(name in f.name for name in sys.argv[2:])]
-    bad = not wanted
-    for function in wanted:
-        try:
-            print("%8d instructions, %d conditional jumps  %s" % (*longest(program, function), function.name))
-        except Unread as problem:
-            print("%8s  %s: %s" % ("not read", function.name, problem))
-            bad = True
-    sys.exit("no function has such a name" if not wanted else int(bad))
+def tell_way(program, function):
+    print("%8d instructions, %d conditional jumps  %s" % (*longest(program, function), function.name))
 
 
 if __name__ == "__main__":
-    main()
+    sys.setrecursionlimit(100000)
+    report(__doc__, tell_way)
