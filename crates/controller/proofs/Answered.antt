@@ -1,5 +1,5 @@
 -- Every call is refused by one of its numbers, and then leaves everything but for a mark, or answers its values. Assumes nothing.
-use Prim.Native.Nat.{ℕ}
+use Prim.Native.Nat.{ℕ, _+_}
 use mathlib.Core.List.{[], _∷_, map}
 use mathlib.Core.Logic.{inl, inr, ⊎-elim}
 use mathlib.Core.Bool.{true, false}
@@ -19,12 +19,12 @@ use Rattle.arbiter.specs.declared.Chosen.{Chosen}
 use Rattle.arbiter.specs.declared.Chosen.the-variants.{Queue, Nobody}
 use Rattle.controller.specs.Controller.{Controller}
 use Rattle.controller.specs.State.{sqAt, withSq}
-use Rattle.controller.specs.Answers.{done, outcome}
+use Rattle.controller.specs.Answers.{done, outcome, refusing}
 use Rattle.controller.specs.Create as create
 use Rattle.controller.specs.Doorbell as doorbell
 use Rattle.controller.specs.Starting as starting
 use Rattle.controller.specs.Starting.{candidates, isPair, headEntry, nextEntry, oneVerdict, pairVerdict, oneTaken, pairTaken, withOne}
-use Rattle.controller.specs.Starting.{withTwo, takeOne, takePair, takeFrom, startRules}
+use Rattle.controller.specs.Starting.{numberRules, withTwo, takeOne, takePair, takeFrom, startRules}
 use Rattle.controller.specs.Finishing as finishing
 use Rattle.controller.specs.Calls.{Call, createCq, createSq, tailWrite, headWrite, start, finish, perform}
 use Rattle.controller.specs.Refusing.{refusals, Among, leftBy, Answered}
@@ -36,17 +36,20 @@ among ((true, n) ∷ rs) z = inl refl
 among ((false, n) ∷ rs) z = inr (among rs z)
 
 module _ (c : Controller) (m : Memory) where
+  no-number : (n : ℕ) → (firstMatch (numberRules n) ≡ 0 → ⊥) → Answered c m start (refusing c m (firstMatch (numberRules n)))
+  no-number n z = inl (_, inr (inr (inr (among (numberRules n) z))), refl)
+
   module _ (id : ℕ) (a : Arbiter) where
     one : (x : TakenOne) → Answered c m start (withOne c m (oneTaken c m id a (headEntry c m id) (oneVerdict c m id)) x)
     unfolding oneTaken
     one NoneFree = inl (13, inr (inr (inl refl)), refl)
-    one (Tag t left) = inr (_, refl)
+    one (Tag t left) = settle-cases (Answered c m start) _ _ _ (λ z. inr (_, refl)) (λ z. no-number (c .nextNumber) z)
 
     pair : (x : TakenTwo)
         → Answered c m start (withTwo c m (pairTaken c m id a (headEntry c m id) (nextEntry c m id) (pairVerdict c m id)) x)
     unfolding pairTaken
     pair TooFew = inl (13, inr (inr (inl refl)), refl)
-    pair (Tags t u left) = inr (_, refl)
+    pair (Tags t u left) = settle-cases (Answered c m start) _ _ _ (λ z. inr (_, refl)) (λ z. no-number (c .nextNumber + 1) z)
 
   taken : (x : Chosen) → Answered c m start (takeFrom c m x)
   unfolding takeOne takePair

@@ -17,7 +17,7 @@ use Rattle.controller.specs.declared.SubmissionQueue.{SubmissionQueue}
 use Rattle.controller.specs.declared.CompletionQueue.{CompletionQueue}
 use Rattle.controller.specs.declared.Command.{Command}
 use Rattle.controller.specs.Controller.{Controller}
-use Rattle.controller.specs.State.{noSq, noCq, sqAt, cqAt, withSq, withCq, withCommands, withHead, withTail, freshController}
+use Rattle.controller.specs.State.{noSq, noCq, sqAt, cqAt, withSq, withCq, withCommands, withNextNumber, withHead, withTail, freshController}
 use Rattle.controller.specs.Rings.{RingTest, existing, someSq, someCq, someRing, shareByte, sharing, shares, endsPast, outside}
 use Rattle.controller.specs.Valid.{RingOk, Valid}
 use Rattle.controller.specs.Create.{newCq, newSq}
@@ -193,6 +193,10 @@ with-commands : {c d : Controller} (ks : List Command) (free : ℕ) (a : Arbiter
 with-commands ks free a (still-rings e) = still-rings e
 with-commands ks free a (adds-ring w r h e o n) = adds-ring w r h e o n
 
+with-number : {c d : Controller} (n : ℕ) → RingsMade c d → RingsMade c (withNextNumber d n)
+with-number n (still-rings e) = still-rings e
+with-number n (adds-ring w r h e o k) = adds-ring w r h e o k
+
 pub of-rings : {c : Controller} {m : Memory} {call : Call} {o : Outcome} → Valid c → Made c m call o → RingsMade c (o .controller)
 unfolding oneTaken pairTaken finishedController posted
 of-rings v (refuses call n) = still-rings (λ x. refl)
@@ -202,8 +206,8 @@ of-rings v (creates-sq id size base k class r) =
     adds-sq v id (newSq size base k class) (r .id-low) refl (r .ring .low) (r .ring .alone)
 of-rings {c} v (moves-tail id x r e) = sq-still c id _ refl
 of-rings {c} v (moves-head id x r) = cq-still c id _ refl
-of-rings {c} v (commands (takes-one id a t left s e w)) = with-commands _ _ _ (sq-still c id _ refl)
-of-rings {c} v (commands (takes-pair id a t u left s e w)) = with-commands _ _ _ (sq-still c id _ refl)
+of-rings {c} v (commands (takes-one id a t left s e w)) = with-number _ (with-commands _ _ _ (sq-still c id _ refl))
+of-rings {c} v (commands (takes-pair id a t u left s e w)) = with-number _ (with-commands _ _ _ (sq-still c id _ refl))
 of-rings {c} v (commands (finishes tag status result r)) = with-commands _ _ _ (cq-still c (cqOf c tag) _ refl)
 
 -- ---- no two rings share a byte

@@ -18,7 +18,7 @@ use Rattle.controller.specs.declared.Command.{Command}
 use Rattle.controller.specs.Controller.{Controller}
 use Rattle.controller.specs.State.{noCq, noCommand, cqAt, commandAt}
 use Rattle.controller.specs.Finishing.{cqOf, full, statusOf, released, unlinked, posted, finishedController, completionOf}
-use Rattle.controller.specs.Finishing.{postedMemory}
+use Rattle.controller.specs.Finishing.{finishAnswer, postedMemory}
 use Rattle.controller.specs.Rings.{outside}
 use Rattle.controller.specs.Answers.{finished, outcome}
 use Rattle.controller.specs.Calls.{finish, Reachable}
@@ -59,6 +59,7 @@ module _ (ks : List Command) (second status : ℕ) where
             verdict = pick s (half u .verdict) (bookStatus (half u .verdict) 0x09);
             first = 0;
             second = half u .second;
+            number = half u .number;
           }
 
       failed : Book
@@ -148,7 +149,7 @@ module _ (q : ℕ) {c : Controller} (b : Book) (m : Memory) (vs : List ℕ) (r :
       }
 
   pub next-finish : Next q b m vs (finish tag status result)
-      (outcome (finished (record { slot = cqAt c id .ring .tail })) (finishedController c tag (statusOf (k .verdict) status))
+      (outcome (finished (finishAnswer c tag)) (finishedController c tag (statusOf (k .verdict) status))
       (postedMemory c m id e))
   unfolding enter finishedController
   next-finish =

@@ -43,7 +43,7 @@ module _ (q : ℕ) (c : Controller) (b : Book) (m : Memory) (vs : List ℕ) (val
   unfolding pairTaken enter entryAt next
   next-pair t u left h h′ =
       let l : t < length (c .commands) = omega (arith, valid .commands-64) in
-      let k = command id (headEntry c m id .cid) v 0 (u + 1) in
+      let k = command id (headEntry c m id .cid) v 0 (u + 1) (c .nextNumber) in
       let l′ : u < length (set (c .commands) t k) = omega (arith, length-set (c .commands) t k, valid .commands-64) in
       record {
         sqs = agree-set bookSq (c .sqs) noSq (b .sqs) id _ _ (omega (arith, valid .sqs-16)) (rw (w .sqs id)) (w .sqs);

@@ -5,7 +5,7 @@ use mathlib.Core.List.{[], _∷_, _++_}
 use mathlib.Core.Logic.{_⊎_, inl, inr, ⊎-elim}
 use mathlib.Core.Path.{_≡_, refl, sym, ap, _∙_}
 use native.Mathlib.Omega.{arith}
-use lib.Dec.{T, ltb, ltb→lt, eqb}
+use lib.Dec.{T, ltb, ltb→lt, eqb, lit≤}
 use lib.ListN.{length}
 use borrow.Author.Tests.{lt-ltb}
 use Rattle.rules.specs.Rules.{pick, Table, firstMatch, settle}
@@ -39,11 +39,13 @@ use Rattle.controller.specs.Create as create
 use Rattle.controller.specs.Doorbell as doorbell
 use Rattle.controller.specs.Starting as starting
 use Rattle.controller.specs.Starting.{candidates, isPair, headEntry, nextEntry, oneVerdict, pairVerdict, oneTaken}
-use Rattle.controller.specs.Starting.{pairTaken, withOne, withTwo, takeOne, takePair, takeFrom, startRules}
+use Rattle.controller.specs.Starting.{pairTaken, lastNumber, numberRules, withNumbers, withOne, withTwo, takeOne, takePair}
+use Rattle.controller.specs.Starting.{takeFrom, startRules}
 use Rattle.controller.specs.Finishing as finishing
 use Rattle.controller.specs.Finishing.{cqOf, full}
 use Rattle.controller.specs.Calls.{createCq, createSq, tailWrite, headWrite, start, finish, Reachable, perform}
 use Rattle.controller.proofs.Choosing.{NoCandidate, nobody-waits}
+use Rattle.controller.proofs.Made.{needs}
 use Rattle.controller.proofs.Validity.{valid}
 use Rattle.controller.proofs.Links.{linked, first-half}
 use Rattle.controller.proofs.Apart as rings
@@ -259,10 +261,6 @@ module _ {c : Controller} (r : Reachable c) (m : Memory) (id v : ℕ) where
 
 -- ---- start
 
--- how many commands a start takes from queue id, and so how many tags it needs
-abbrev pub needs : Controller → Memory → ℕ → ℕ
-needs c m id = pick (isPair id (sqAt c id .ring) m) 2 1
-
 -- "If the chosen SQ needs more than are free"
 pub record TooFewTags (c : Controller) (m : Memory) : Type 0 where
   pub id : ℕ
@@ -270,8 +268,22 @@ pub record TooFewTags (c : Controller) (m : Memory) : Type 0 where
   pub chosen : choice (c .arbiter) (candidates c) ≡ Queue id left
   pub few : freeCount (c .free) < needs c m id
 
+-- "A start that would need a number above 18,446,744,073,709,551,614": one of those that the chosen SQ's commands would bear
+pub record NumberAbove (c : Controller) (m : Memory) : Type 0 where
+  pub id : ℕ
+  pub left : Arbiter
+  pub chosen : choice (c .arbiter) (candidates c) ≡ Queue id left
+  pub needed : ℕ
+  pub from-next : c .nextNumber ≤ needed
+  pub to-last : needed < c .nextNumber + needs c m id
+  pub above : 18446744073709551614 < needed
+
+-- of the queue chosen
+abbrev pub takeReasons : Controller → Memory → Reasons
+takeReasons c m = (TooFewTags c m, 13) ∷ (NumberAbove c m, 32) ∷ []
+
 abbrev pub startReasons : Controller → Memory → Reasons
-startReasons c m = (Outside c (length m), 5) ∷ (NoCandidate c, 12) ∷ (TooFewTags c m, 13) ∷ []
+startReasons c m = (Outside c (length m), 5) ∷ (NoCandidate c, 12) ∷ takeReasons c m
 
 same-queue : {i j : ℕ} {a b : Arbiter} → Queue i a ≡ Queue j b → i ≡ j
 same-queue e = cc
@@ -280,15 +292,38 @@ not-nobody : {i : ℕ} {a : Arbiter} {x : Chosen} → x ≡ Queue i a → x ≡ 
 not-nobody e f = let z : _≡_ {A = ℕ} 0 1 = cc in omega arith
 
 module _ {c : Controller} (r : Reachable c) (m : Memory) where
-  -- 13 or not, of the queue chosen
+  -- 13 or 32 or neither, of the queue chosen
   module _ (id : ℕ) (a : Arbiter) (e : choice (c .arbiter) (candidates c) ≡ Queue id a) where
-    few : {k : ℕ} → needs c m id ≡ k → freeCount (c .free) < k → Decided ((TooFewTags c m, 13) ∷ []) 13
+    few : {k : ℕ} → needs c m id ≡ k → freeCount (c .free) < k → Decided (takeReasons c m) 13
     few f h = inl (record { id = id; left = a; chosen = e; few = rw f h }, refl)
 
-    enough : {k : ℕ} → needs c m id ≡ k → k ≤ freeCount (c .free) → Decided ((TooFewTags c m, 13) ∷ []) 0
-    enough f h = inr (λ w. let g = ap (needs c m) (same-queue (sym (w .chosen) ∙ e)) in omega (arith, w .few, g, f, h), refl)
+    -- n is the highest number that is needed
+    says-above : (n : ℕ) → c .nextNumber + needs c m id ≡ n + 1 → Says (ltb lastNumber n) (NumberAbove c m)
+    says-above n f =
+        says-as (says-lt lastNumber n)
+        (λ h. record {
+          id = id;
+          left = a;
+          chosen = e;
+          needed = n;
+          from-next = omega (arith, f, needs-some);
+          to-last = omega (arith, f);
+          above = h;
+        })
+        (λ w. let g = ap (needs c m) (same-queue (sym (w .chosen) ∙ e)) in omega (arith, w .to-last, w .above, g, f))
+      where
+        needs-some : 1 ≤ needs c m id
+        needs-some = pick-cases (λ (k : ℕ). 1 ≤ k) (isPair id (sqAt c id .ring) m) 2 1 (λ h. lit≤ tt) (λ h. lit≤ tt)
 
-    one : isPair id (sqAt c id .ring) m ≡ false → Decided ((TooFewTags c m, 13) ∷ []) (number (takeOne c m id a))
+    enough : {k : ℕ} (n : ℕ) (o : Outcome) → needs c m id ≡ k → k ≤ freeCount (c .free) → c .nextNumber + k ≡ n + 1 → number o ≡ 0
+        → Decided (takeReasons c m) (number (withNumbers c m n o))
+    enough n o f h l z =
+        inr (
+          λ w. let g = ap (needs c m) (same-queue (sym (w .chosen) ∙ e)) in omega (arith, w .few, g, f, h),
+          settled c m o (numberRules n) ((NumberAbove c m, 32) ∷ []) [] tt (refl, says-above n (rw f l), λ w. tt) (λ w. z),
+        )
+
+    one : isPair id (sqAt c id .ring) m ≡ false → Decided (takeReasons c m) (number (takeOne c m id a))
     unfolding takeOne oneTaken
     one p = go (takenOne (c .free)) refl
       where
@@ -296,15 +331,15 @@ module _ {c : Controller} (r : Reachable c) (m : Memory) where
         h = valid r .free-64
 
         go : (x : TakenOne) → takenOne (c .free) ≡ x
-            → Decided ((TooFewTags c m, 13) ∷ []) (number (withOne c m (oneTaken c m id a (headEntry c m id) (oneVerdict c m id)) x))
+            → Decided (takeReasons c m) (number (withOne c m (oneTaken c m id a (headEntry c m id) (oneVerdict c m id)) x))
         go NoneFree q =
             let z = none-free (c .free) h .0 q in
             few {k = 1} (rw p)
             (⊎-elim (λ (l : freeCount (c .free) < 1). l)
             (λ (l : 1 ≤ freeCount (c .free)). absurd (omega (arith, free-pos (c .free) h .0 l))) (lt-or-ge (freeCount (c .free)) 1))
-        go (Tag t left) q = enough {k = 1} (rw p) (omega (arith, one-taken (c .free) h q .fewer))
+        go (Tag t left) q = enough {k = 1} (c .nextNumber) _ (rw p) (omega (arith, one-taken (c .free) h q .fewer)) refl refl
 
-    pair : isPair id (sqAt c id .ring) m ≡ true → Decided ((TooFewTags c m, 13) ∷ []) (number (takePair c m id a))
+    pair : isPair id (sqAt c id .ring) m ≡ true → Decided (takeReasons c m) (number (takePair c m id a))
     unfolding takePair pairTaken
     pair p = go (takenTwo (c .free)) refl
       where
@@ -312,24 +347,25 @@ module _ {c : Controller} (r : Reachable c) (m : Memory) where
         h = valid r .free-64
 
         go : (x : TakenTwo) → takenTwo (c .free) ≡ x
-            → Decided ((TooFewTags c m, 13) ∷ [])
+            → Decided (takeReasons c m)
             (number (withTwo c m (pairTaken c m id a (headEntry c m id) (nextEntry c m id) (pairVerdict c m id)) x))
         go TooFew q = few {k = 2} (rw p) (too-few (c .free) h .0 q)
-        go (Tags t u left) q = enough {k = 2} (rw p) (omega (arith, two-taken (c .free) h q .fewer))
+        go (Tags t u left) q =
+            enough {k = 2} (c .nextNumber + 1) _ (rw p) (omega (arith, two-taken (c .free) h q .fewer)) (omega arith) refl
 
   chosen-decided : (x : Chosen) → choice (c .arbiter) (candidates c) ≡ x
-      → Decided ((NoCandidate c, 12) ∷ (TooFewTags c m, 13) ∷ []) (number (takeFrom c m x))
+      → Decided ((NoCandidate c, 12) ∷ takeReasons c m) (number (takeFrom c m x))
   chosen-decided Nobody e = inl (nobody-waits c (valid r) .0 e, refl)
   chosen-decided (Queue id a) e =
       inr (
         λ n. not-nobody e (nobody-waits c (valid r) .1 n),
-        pick-cases (λ o. Decided ((TooFewTags c m, 13) ∷ []) (number o)) (isPair id (sqAt c id .ring) m) _ _ (pair id a e) (one id a e),
+        pick-cases (λ o. Decided (takeReasons c m) (number o)) (isPair id (sqAt c id .ring) m) _ _ (pair id a e) (one id a e),
       )
 
   pub start-refusal : Decided (startReasons c m) (number (perform c m start))
   unfolding starting.start
   start-refusal =
-      settled c m _ (startRules c (length m)) ((Outside c (length m), 5) ∷ []) ((NoCandidate c, 12) ∷ (TooFewTags c m, 13) ∷ []) tt
+      settled c m _ (startRules c (length m)) ((Outside c (length m), 5) ∷ []) ((NoCandidate c, 12) ∷ takeReasons c m) tt
       (refl, outside-exactly (valid r) (length m), λ o. tt) (λ o. chosen-decided (choice (c .arbiter) (candidates c)) refl)
 
 -- ---- finish

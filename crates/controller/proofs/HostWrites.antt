@@ -83,7 +83,7 @@ shared-typed {c} m (x ∷ xs) r b e =
 -- ---- the example
 
 -- an entry of an opcode, FUSE and CID, its other fields 0
-abbrev entry : ℕ → ℕ → ℕ → List ℕ
+abbrev pub entry : ℕ → ℕ → ℕ → List ℕ
 entry opc fuse cid = opc ∷ fuse ∷ cid ∷ replicate 61 0
 
 abbrev silent : Call → Shared
@@ -119,12 +119,12 @@ called =
     ∷ done
     ∷ done
     ∷ refused 9
-    ∷ started (record { sq = 1; count = 2; first = 0; second = 1; slot = 0; verdict = 0 })
+    ∷ started (record { sq = 1; count = 2; first = 0; second = 1; slot = 0; verdict = 0; number = 0 })
     ∷ refused 16
-    ∷ finished (record { slot = 0 })
+    ∷ finished (record { slot = 0; number = 0 })
     ∷ refused 17
     ∷ done
-    ∷ finished (record { slot = 1 })
+    ∷ finished (record { slot = 1; number = 1 })
     ∷ refused 10
     ∷ []
 

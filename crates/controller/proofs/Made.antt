@@ -6,6 +6,7 @@ use mathlib.Core.Path.{_≡_, refl, subst}
 use native.Mathlib.Omega.{arith}
 use lib.ListN.{length}
 use borrow.Author.Tests.{ltb-false, eqb-true}
+use Rattle.rules.specs.Rules.{pick, firstMatch}
 use Rattle.rules.proofs.Tests.{or-false, not-no, range}
 use Rattle.rules.proofs.Tables.{Unapplied, passed}
 use Rattle.bits.specs.Tags.{takenOne, takenTwo}
@@ -32,9 +33,9 @@ use Rattle.controller.specs.Doorbell.{validTail, validHead, tailRules, t
 use Rattle.controller.specs.Doorbell.{headMoved}
 use Rattle.controller.specs.Starting as starting
 use Rattle.controller.specs.Starting.{candidates, isPair, headEntry, nextEntry, oneVerdict, pairVerdict, oneTaken, pairTaken, withOne}
-use Rattle.controller.specs.Starting.{withTwo, takeOne, takePair, takeFrom, startRules}
+use Rattle.controller.specs.Starting.{lastNumber, numberRules, withTwo, takeOne, takePair, takeFrom, startRules}
 use Rattle.controller.specs.Finishing as finishing
-use Rattle.controller.specs.Finishing.{cqOf, full, finishRules, finishRefusal, statusOf, completionOf, finishedController}
+use Rattle.controller.specs.Finishing.{cqOf, full, finishRules, finishRefusal, statusOf, completionOf, finishAnswer, finishedController}
 use Rattle.controller.specs.Finishing.{postedMemory}
 use Rattle.controller.specs.Calls.{Call, createCq, createSq, tailWrite, headWrite, start, finish, perform}
 use Rattle.rules.proofs.Cases.{pick-cases, settle-cases}
@@ -73,11 +74,16 @@ pub record TakesHead (c : Controller) (id v : ℕ) : Type 0 where
   pub here : cqAt c id .ring .exists ≡ true
   pub valid : validHead (cqAt c id .ring) v ≡ true
 
--- the queue that a start takes from
+-- how many commands a start takes from queue id, and so how many tags and start numbers it needs
+abbrev pub needs : Controller → Memory → ℕ → ℕ
+needs c m id = pick (isPair id (sqAt c id .ring) m) 2 1
+
+-- the queue that a start takes from; it needs no number above the last
 pub record Served (c : Controller) (m : Memory) (id : ℕ) (a : Arbiter) : Type 0 where
   pub inside : outside c (length m) ≡ false
   pub choice : choice (c .arbiter) (candidates c) ≡ Queue id a
   pub candidate : Candidate c id
+  pub numbers : c .nextNumber + needs c m id ≤ lastNumber + 1
 
 pub record Finishable (c : Controller) (n tag status : ℕ) : Type 0 where
   pub accepted : finishRefusal c n tag status ≡ 0
@@ -97,7 +103,7 @@ pub data CommandMade (c : Controller) (m : Memory) : Call → Outcome → Type 0
       → CommandMade c m start (pairTaken c m id a (headEntry c m id) (nextEntry c m id) (pairVerdict c m id) t u left)
   finishes : (tag status result : ℕ) → Finishable c (length m) tag status
       → CommandMade c m (finish tag status result)
-      (outcome (finished (record { slot = cqAt c (cqOf c tag) .ring .tail }))
+      (outcome (finished (finishAnswer c tag))
       (finishedController c tag (statusOf (commandAt c tag .verdict) status))
       (postedMemory c m (cqOf c tag) (completionOf c tag status result)))
 
@@ -202,15 +208,24 @@ module _ (c : Controller) (m : Memory) where
   head-made id v =
       settle-cases (Made c m (headWrite id v)) _ _ _ (λ z. moves-head id v (takes-head c id v z)) (λ n. refuses (headWrite id v) _)
 
-  module _ (h : c .free < 2 ^ 64) (id : ℕ) (a : Arbiter) (s : Served c m id a) where
+  module _ (h : c .free < 2 ^ 64) (id : ℕ) (a : Arbiter) (i : outside c (length m) ≡ false)
+      (q : choice (c .arbiter) (candidates c) ≡ Queue id a) where
+    -- where n is the highest number that a start needs
+    served : (n : ℕ) → firstMatch (numberRules n) ≡ 0 → c .nextNumber + needs c m id ≡ n + 1 → Served c m id a
+    served n z e =
+        let l = ltb-false lastNumber n (passed (numberRules n) tt z .0) in
+        record { inside = i; choice = q; candidate = chosen c q; numbers = omega (arith, l, e) }
+
     one-made : isPair id (sqAt c id .ring) m ≡ false → Made c m start (takeOne c m id a)
     unfolding takeOne
     one-made e = go (takenOne (c .free)) refl
       where
         go : (x : TakenOne) → takenOne (c .free) ≡ x
             → Made c m start (withOne c m (oneTaken c m id a (headEntry c m id) (oneVerdict c m id)) x)
-        go NoneFree q = refuses start 13
-        go (Tag t left) q = commands (takes-one id a t left s e (one-taken (c .free) h q))
+        go NoneFree w = refuses start 13
+        go (Tag t left) w =
+            settle-cases (Made c m start) _ _ _ (λ z. commands (takes-one id a t left (served (c .nextNumber) z (rw e)) e (one-taken (c .free) h w)))
+            (λ n. refuses start _)
 
     pair-made : isPair id (sqAt c id .ring) m ≡ true → Made c m start (takePair c m id a)
     unfolding takePair
@@ -218,8 +233,10 @@ module _ (c : Controller) (m : Memory) where
       where
         go : (x : TakenTwo) → takenTwo (c .free) ≡ x
             → Made c m start (withTwo c m (pairTaken c m id a (headEntry c m id) (nextEntry c m id) (pairVerdict c m id)) x)
-        go TooFew q = refuses start 13
-        go (Tags t u left) q = commands (takes-pair id a t u left s e (two-taken (c .free) h q))
+        go TooFew w = refuses start 13
+        go (Tags t u left) w =
+            settle-cases (Made c m start) _ _ _ (λ z. commands (takes-pair id a t u left (served (c .nextNumber + 1) z (rw e (omega arith))) e (two-taken (c .free) h w)))
+            (λ n. refuses start _)
 
   start-made : c .free < 2 ^ 64 → Made c m start (perform c m start)
   unfolding starting.start
@@ -231,8 +248,7 @@ module _ (c : Controller) (m : Memory) where
       go : outside c (length m) ≡ false → (x : Chosen) → choice (c .arbiter) (candidates c) ≡ x → Made c m start (takeFrom c m x)
       go i Nobody q = refuses start 12
       go i (Queue id a) q =
-          let s : Served c m id a = record { inside = i; choice = q; candidate = chosen c q } in
-          pick-cases (Made c m start) (isPair id (sqAt c id .ring) m) _ _ (pair-made h id a s) (one-made h id a s)
+          pick-cases (Made c m start) (isPair id (sqAt c id .ring) m) _ _ (pair-made h id a i q) (one-made h id a i q)
 
   pub finishable : (tag status : ℕ) → finishRefusal c (length m) tag status ≡ 0 → Finishable c (length m) tag status
   unfolding finishRefusal

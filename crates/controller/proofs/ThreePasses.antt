@@ -53,20 +53,20 @@ calls =
     ∷ headWrite 0 0 ∷ finish 0 11 83
     ∷ []
 
--- a command taken from SQ 0 with a tag out of a slot, and a completion posted to a slot
-abbrev takes : ℕ → ℕ → Answer
-takes tag slot = started (record { sq = 0; count = 1; first = tag; second = 0; slot = slot; verdict = 0 })
+-- the command of a start number taken from SQ 0 with a tag out of a slot, and its completion posted to a slot
+abbrev takes : ℕ → ℕ → ℕ → Answer
+takes number tag slot = started (record { sq = 0; count = 1; first = tag; second = 0; slot = slot; verdict = 0; number = number })
 
-abbrev posts : ℕ → Answer
-posts slot = finished (record { slot = slot })
+abbrev posts : ℕ → ℕ → Answer
+posts number slot = finished (record { slot = slot; number = number })
 
 abbrev pub called : List Answer
 called =
-    done ∷ done ∷ done ∷ takes 0 0 ∷ takes 1 1 ∷ takes 2 2
-    ∷ posts 0 ∷ refused 17 ∷ done ∷ posts 1
-    ∷ done ∷ posts 0 ∷ done ∷ takes 0 3 ∷ takes 1 0 ∷ takes 2 1 ∷ done ∷ posts 1
-    ∷ done ∷ posts 0 ∷ done ∷ posts 1 ∷ done ∷ takes 0 2 ∷ refused 17
-    ∷ done ∷ posts 0
+    done ∷ done ∷ done ∷ takes 0 0 0 ∷ takes 1 1 1 ∷ takes 2 2 2
+    ∷ posts 0 0 ∷ refused 17 ∷ done ∷ posts 1 1
+    ∷ done ∷ posts 2 0 ∷ done ∷ takes 3 0 3 ∷ takes 4 1 0 ∷ takes 5 2 1 ∷ done ∷ posts 3 1
+    ∷ done ∷ posts 4 0 ∷ done ∷ posts 5 1 ∷ done ∷ takes 6 0 2 ∷ refused 17
+    ∷ done ∷ posts 6 0
     ∷ []
 
 entries-bytes : (cids : List ℕ) → Bytes (entries cids)

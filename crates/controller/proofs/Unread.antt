@@ -21,7 +21,7 @@ use Rattle.ring.proofs.Exactly.{says-full}
 use Rattle.controller.specs.Controller.{Controller}
 use Rattle.controller.specs.State.{cqAt, commandAt}
 use Rattle.controller.specs.Finishing as finishing
-use Rattle.controller.specs.Finishing.{cqOf, full, finishRefusal, completionOf, statusOf, finishedController, tailOf, postedMemory}
+use Rattle.controller.specs.Finishing.{cqOf, full, finishRefusal, completionOf, statusOf, finishAnswer, finishedController, tailOf, postedMemory}
 use Rattle.controller.specs.Answers.{FinishAnswer, Answer, refused, done, started, finished, numberOf, outcome, refusing}
 use Rattle.controller.specs.Calls.{Reachable, finish, perform}
 use Rattle.controller.specs.Demand.{History, ringOf, ringBytes, sizeOf, unreleased, bookHead}
@@ -54,13 +54,13 @@ module _ {c : Controller} (r : Reachable c) (m : Memory) (tag status result : �
   module _ (z : number ≡ 0) where
     -- one that is not refused answers the slot at the tail and posts there
     pub finish-done : perform c m (finish tag status result)
-        ≡ outcome (finished (record { slot = cqAt c (cqOf c tag) .ring .tail }))
+        ≡ outcome (finished (finishAnswer c tag))
         (finishedController c tag (statusOf (commandAt c tag .verdict) status))
         (postedMemory c m (cqOf c tag) (completionOf c tag status result))
     unfolding finishing.finish
     finish-done = settle-accepted number (refusing c m) _ z
 
-    pub finish-answer : perform c m (finish tag status result) .answer ≡ finished (record { slot = cqAt c (cqOf c tag) .ring .tail })
+    pub finish-answer : perform c m (finish tag status result) .answer ≡ finished (finishAnswer c tag)
     finish-answer = ap (λ o. o .answer) finish-done
 
     abbrev left : Memory
@@ -140,10 +140,10 @@ module _ (h : History) where
 
     -- a finish that posts to the queue never names a slot whose entry is still unread
     pub never-unread : (m : Memory) → cqOf (last h) tag ≡ h .q
-        → perform (last h) m (finish tag status result) .answer ≡ finished (record { slot = unreadSlot j }) → ⊥
-    never-unread m e a =
+        → {f : FinishAnswer} → perform (last h) m (finish tag status result) .answer ≡ finished f → f .slot ≡ unreadSlot j → ⊥
+    never-unread m e a s =
         ⊎-elim
-        (λ z. not-tail (same-slot (sym a ∙ finish-answer (reachable h) m tag status result z) ∙ ap (λ k. cqAt (last h) k .ring .tail) e))
+        (λ z. not-tail (sym s ∙ same-slot (sym a ∙ finish-answer (reachable h) m tag status result z) ∙ ap (λ k. cqAt (last h) k .ring .tail) e))
         (λ n. refused-no-slot (sym (ap (λ o. o .answer) (finish-refused (reachable h) m tag status result n)) ∙ a))
         (same-or-not (finishRefusal (last h) (length m) tag status) 0)
 

@@ -1,12 +1,13 @@
 -- A start is refused with 12 exactly if every ring lies in the memory and "no SQ is a candidate". Assumes nothing.
-use Prim.Native.Nat.{ℕ}
+use Prim.Native.Nat.{ℕ, _+_}
 use mathlib.Core.Bool.{Bool, true, false}
 use mathlib.Core.Logic.{_↔_}
 use mathlib.Core.Path.{_≡_, refl, ap}
 use native.Mathlib.Omega.{arith}
+use lib.Dec.{ltb}
 use lib.ListN.{length}
-use Rattle.rules.specs.Rules.{pick, settle}
-use Rattle.rules.proofs.Cases.{pick-cases}
+use Rattle.rules.specs.Rules.{pick, firstMatch, settle}
+use Rattle.rules.proofs.Cases.{pick-cases, settle-cases}
 use Rattle.bits.specs.Tags.{takenOne, takenTwo}
 use Rattle.le.specs.Memory.{Memory}
 use Rattle.bits.specs.declared.TakenOne.{TakenOne}
@@ -22,7 +23,8 @@ use Rattle.controller.specs.State.{sqAt}
 use Rattle.controller.specs.Rings.{outside}
 use Rattle.controller.specs.Answers.{refused, numberOf, Outcome, refusing}
 use Rattle.controller.specs.Starting as starting
-use Rattle.controller.specs.Starting.{candidates, isPair, oneTaken, pairTaken, withOne, withTwo, takeOne, takePair, takeFrom}
+use Rattle.controller.specs.Starting.{candidates, isPair, oneTaken, pairTaken, lastNumber, numberRules, withNumbers, withOne, withTwo}
+use Rattle.controller.specs.Starting.{takeOne, takePair, takeFrom}
 use Rattle.controller.specs.Calls.{Reachable, perform, start}
 use Rattle.controller.proofs.Choosing.{NoCandidate, nobody-waits}
 use Rattle.controller.proofs.Validity.{valid}
@@ -31,13 +33,20 @@ abbrev Number : Outcome → ℕ
 Number o = numberOf (o .answer)
 
 module _ (c : Controller) (m : Memory) where
+  number-not : (n : ℕ) → firstMatch (numberRules n) ≡ 12 → ⊥
+  number-not n = pick-cases (λ (k : ℕ). k ≡ 12 → ⊥) (ltb lastNumber n) 32 0 (λ h e. omega arith) (λ h e. omega arith)
+
+  with-number : (n : ℕ) (o : Outcome) → Number o ≡ 0 → Number (withNumbers c m n o) ≡ 12 → ⊥
+  with-number n o z =
+      settle-cases (λ x. Number x ≡ 12 → ⊥) (firstMatch (numberRules n)) (refusing c m) o (λ h e. omega arith) (λ h. number-not n)
+
   with-one : (f : ℕ → ℕ → Outcome) → ((t left : ℕ) → Number (f t left) ≡ 0) → (x : TakenOne) → Number (withOne c m f x) ≡ 12 → ⊥
-  with-one f z NoneFree e = omega arith
-  with-one f z (Tag t left) e = omega (arith, z t left)
+  with-one f z NoneFree = λ e. omega arith
+  with-one f z (Tag t left) = with-number (c .nextNumber) (f t left) (z t left)
 
   with-two : (f : ℕ → ℕ → ℕ → Outcome) → ((t u left : ℕ) → Number (f t u left) ≡ 0) → (x : TakenTwo) → Number (withTwo c m f x) ≡ 12 → ⊥
-  with-two f z TooFew e = omega arith
-  with-two f z (Tags t u left) e = omega (arith, z t u left)
+  with-two f z TooFew = λ e. omega arith
+  with-two f z (Tags t u left) = with-number (c .nextNumber + 1) (f t u left) (z t u left)
 
   one : (id : ℕ) (a : Arbiter) → Number (takeOne c m id a) ≡ 12 → ⊥
   unfolding takeOne oneTaken

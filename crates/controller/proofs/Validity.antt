@@ -25,7 +25,7 @@ use Rattle.controller.specs.declared.CompletionQueue.{CompletionQueue}
 use Rattle.controller.specs.declared.Command.{Command}
 use Rattle.controller.specs.Controller.{Controller}
 use Rattle.controller.specs.State.{noSq, noCq, noCommand, sqAt, cqAt, commandAt, outstanding, withSq, withCq, withHead, withTail}
-use Rattle.controller.specs.State.{sqWithRing, withCommands, freshController}
+use Rattle.controller.specs.State.{sqWithRing, withCommands, withNextNumber, freshController}
 use Rattle.controller.specs.Valid.{RingOk, CommandOk, Valid}
 use Rattle.controller.specs.Create.{newRing}
 use Rattle.controller.specs.Doorbell.{mark}
@@ -159,6 +159,24 @@ module _ {c : Controller} (v : Valid c) where
         command-sq = sq;
       }
 
+  -- the next start number may be any
+  with-number : (n : ℕ) → Valid (withNextNumber c n)
+  with-number n =
+      record {
+        sqs-16 = v .sqs-16;
+        cqs-16 = v .cqs-16;
+        commands-64 = v .commands-64;
+        free-64 = v .free-64;
+        sq-ok = v .sq-ok;
+        cq-ok = v .cq-ok;
+        sq-cq = v .sq-cq;
+        sq-cq-low = v .sq-cq-low;
+        sq-class = v .sq-class;
+        cq-phase = v .cq-phase;
+        command-ok = v .command-ok;
+        command-sq = v .command-sq;
+      }
+
   -- a tag is taken for a command of a queue that exists
   add-command : (a : Arbiter) (k : Command) {t left : ℕ} → OneTaken (c .free) t left → CommandOk k → SqHere (sqAt c (k .sq))
       → Valid (withCommands c (set (c .commands) t k) left a)
@@ -255,16 +273,18 @@ valid-kept {c} v (moves-head id x r) =
     })
 valid-kept v (commands (takes-one id a t left s e w)) =
     let k = s .candidate in
-    add-command (passed-valid v id 1 k) a _ w
-    (record { sq-low = k .0; verdict-low = verdict-one id _ _; first-low = lit≤ tt; second-low = lit≤ tt }) (passed-here v id 1 k)
+    with-number
+    (add-command (passed-valid v id 1 k) a _ w
+    (record { sq-low = k .0; verdict-low = verdict-one id _ _; first-low = lit≤ tt; second-low = lit≤ tt }) (passed-here v id 1 k)) _
 valid-kept v (commands (takes-pair id a t u left s e w)) =
     let k = s .candidate in
     let b = verdict-pair _ _ _ _ in
-    add-command
+    with-number
+    (add-command
     (add-command (passed-valid v id 2 k) a _ (w .first)
     (record { sq-low = k .0; verdict-low = b; first-low = lit≤ tt; second-low = omega (arith, w .second .low) }) (passed-here v id 2 k))
     a _ (w .second)
-    (record { sq-low = k .0; verdict-low = b; first-low = omega (arith, w .first .low); second-low = lit≤ tt }) (passed-here v id 2 k)
+    (record { sq-low = k .0; verdict-low = b; first-low = omega (arith, w .first .low); second-low = lit≤ tt }) (passed-here v id 2 k)) _
 valid-kept {c} v (commands (finishes tag status result r)) =
     let i = cqOf c tag in
     let s = commandAt c tag .second in

@@ -4,7 +4,8 @@ use mathlib.Core.List.{List, [], _∷_}
 use Rattle.le.specs.Memory.{Memory}
 use Rattle.controller.specs.Controller.{Controller}
 
--- "It answers the SQ id, how many commands, the first tag, the second tag (0 if one is taken), the first slot and the verdict."
+-- "It answers the SQ id, how many commands, the first tag, the second tag (0 if one is taken), the first slot and the verdict", and its
+-- first command's start number.
 pub record StartAnswer : Type 0 where
   pub sq : ℕ
   pub count : ℕ
@@ -12,10 +13,12 @@ pub record StartAnswer : Type 0 where
   pub second : ℕ
   pub slot : ℕ
   pub verdict : ℕ
+  pub number : ℕ
 
--- "The answer names the slot."
+-- "The answer names the slot", and the start number of the command that is posted.
 pub record FinishAnswer : Type 0 where
   pub slot : ℕ
+  pub number : ℕ
 
 -- a refusal by its number; nothing more than that the call was done; or the values of a start or of a finish
 pub data Answer : Type 0 where

@@ -38,14 +38,14 @@ abbrev pub ofNumber : ℕ → Answer
 ofNumber n = pick (eqb n 0) done (refused n)
 
 abbrev pub ofStarted : Started → Answer
-ofStarted (S.One sq tag slot verdict) =
-    started (record { sq = sq; count = 1; first = tag; second = 0; slot = slot; verdict = verdict })
-ofStarted (S.Pair sq first second slot verdict) =
-    started (record { sq = sq; count = 2; first = first; second = second; slot = slot; verdict = verdict })
+ofStarted (S.One sq tag slot verdict number) =
+    started (record { sq = sq; count = 1; first = tag; second = 0; slot = slot; verdict = verdict; number = number })
+ofStarted (S.Pair sq first second slot verdict number) =
+    started (record { sq = sq; count = 2; first = first; second = second; slot = slot; verdict = verdict; number = number })
 ofStarted (S.Refused n) = refused n
 
 abbrev pub ofFinished : Finished → Answer
-ofFinished (F.Slot slot) = finished (record { slot = slot })
+ofFinished (F.Slot slot number) = finished (record { slot = slot; number = number })
 ofFinished (F.Refused n) = refused n
 
 -- a call on a controller, given a memory

@@ -17,7 +17,7 @@ use Rattle.controller.specs.Controller.{Controller}
 use Rattle.controller.specs.State.{noCommand, sqAt, cqAt, commandAt, outstanding, withTail, withCq, withCommands}
 use Rattle.controller.specs.Status.{failedFused}
 use Rattle.controller.specs.Rings.{outside}
-use Rattle.controller.specs.Answers.{Outcome, outcome, finished, refusing}
+use Rattle.controller.specs.Answers.{FinishAnswer, Outcome, outcome, finished, refusing}
 
 -- the completion queue that a tag's command is posted to
 abbrev pub cqOf : Controller → ℕ → ℕ
@@ -54,6 +54,7 @@ released status k =
       verdict = pick (eqb status 0) (k .verdict) (statusOf (k .verdict) failedFused);
       first = 0;
       second = k .second;
+      number = k .number;
     }
 
 -- the commands once a first half has posted status; second is its second half's tag plus 1
@@ -86,11 +87,14 @@ tailOf c q = cqAt c q .ring .base + 16 * cqAt c q .ring .tail
 abbrev pub postedMemory : Controller → Memory → ℕ → Completion → Memory
 postedMemory c m q e = put m (tailOf c q) (completionBytes e (cqAt c q .phase))
 
--- "The answer names the slot."
+-- "The answer names the slot", and reports the command's start number.
+abbrev pub finishAnswer : Controller → ℕ → FinishAnswer
+finishAnswer c tag = record { slot = cqAt c (cqOf c tag) .ring .tail; number = commandAt c tag .number }
+
 unfoldable pub finish : Controller → Memory → ℕ → ℕ → ℕ → Outcome
 finish c m tag status result =
     settle (finishRefusal c (length m) tag status) (refusing c m)
     (outcome
-    (finished (record { slot = cqAt c (cqOf c tag) .ring .tail }))
+    (finished (finishAnswer c tag))
     (finishedController c tag (statusOf (commandAt c tag .verdict) status))
     (postedMemory c m (cqOf c tag) (completionOf c tag status result)))

@@ -18,7 +18,7 @@ refusals (createCq id size base) = 1 ∷ 2 ∷ 3 ∷ 4 ∷ 5 ∷ 6 ∷ []
 refusals (createSq id size base cq class) = 1 ∷ 2 ∷ 8 ∷ 7 ∷ 3 ∷ 4 ∷ 5 ∷ 6 ∷ []
 refusals (tailWrite id value) = 1 ∷ 9 ∷ 11 ∷ 10 ∷ []
 refusals (headWrite id value) = 1 ∷ 9 ∷ 10 ∷ []
-refusals start = 5 ∷ 12 ∷ 13 ∷ []
+refusals start = 5 ∷ 12 ∷ 13 ∷ 32 ∷ []
 refusals (finish tag status result) = 5 ∷ 14 ∷ 15 ∷ 16 ∷ 17 ∷ []
 
 -- n is one of the numbers

@@ -2,7 +2,7 @@
 use Prim.Native.Nat.{ℕ, _+_, _*_, _%_}
 use mathlib.Core.Bool.{Bool, not, _&&_}
 use mathlib.Core.List.{[], _∷_}
-use lib.Dec.{leb, eqb}
+use lib.Dec.{ltb, leb, eqb}
 use lib.ListN.{length, set}
 use Rattle.rules.specs.Rules.{pick, Table, firstMatch, settle}
 use Rattle.bits.specs.Bits.{maskOf}
@@ -24,7 +24,7 @@ use Rattle.controller.specs.declared.Ring.{Ring}
 use Rattle.controller.specs.declared.SubmissionQueue.{SubmissionQueue}
 use Rattle.controller.specs.declared.Command.{Command}
 use Rattle.controller.specs.Controller.{Controller}
-use Rattle.controller.specs.State.{sqAt, sqWithRing, withHead, withSq, withCommands}
+use Rattle.controller.specs.State.{sqAt, sqWithRing, withHead, withSq, withCommands, withNextNumber}
 use Rattle.controller.specs.Rings.{outside}
 use Rattle.controller.specs.Answers.{Outcome, outcome, started, refusing}
 use Rattle.controller.specs.Verdict.{inUse, verdictOne, verdictPair}
@@ -63,34 +63,52 @@ isPair id r m =
 abbrev pub passed : SubmissionQueue → ℕ → SubmissionQueue
 passed q n = sqWithRing q (withHead (q .ring) ((q .ring .head + n) % q .ring .size))
 
-abbrev pub command : ℕ → ℕ → ℕ → ℕ → ℕ → Command
-command sq cid verdict first second = record { sq = sq; cid = cid; verdict = verdict; first = first; second = second }
+abbrev pub command : ℕ → ℕ → ℕ → ℕ → ℕ → ℕ → Command
+command sq cid verdict first second number =
+    record { sq = sq; cid = cid; verdict = verdict; first = first; second = second; number = number }
 
--- the entry e at the head of queue id is taken with the tag t
+-- the entry e at the head of queue id is taken with the tag t and the next start number
 unfoldable pub oneTaken : Controller → Memory → ℕ → Arbiter → Submission → ℕ → ℕ → ℕ → Outcome
 oneTaken c m id a e v t left =
+    let n = c .nextNumber in
     outcome
-    (started (record { sq = id; count = 1; first = t; second = 0; slot = sqAt c id .ring .head; verdict = v }))
-    (withCommands (withSq c id (passed (sqAt c id) 1)) (set (c .commands) t (command id (e .cid) v 0 0)) left a)
+    (started (record { sq = id; count = 1; first = t; second = 0; slot = sqAt c id .ring .head; verdict = v; number = n }))
+    (withNextNumber
+    (withCommands (withSq c id (passed (sqAt c id) 1)) (set (c .commands) t (command id (e .cid) v 0 0 n)) left a)
+    (n + 1))
     m
 
--- the entries e and f at the head of queue id are taken with the tags t and u, each linked to the other
+-- the entries e and f at the head of queue id are taken with the tags t and u, each linked to the other, "a pair taking two in order"
 unfoldable pub pairTaken : Controller → Memory → ℕ → Arbiter → Submission → Submission → ℕ → ℕ → ℕ → ℕ → Outcome
 pairTaken c m id a e f v t u left =
+    let n = c .nextNumber in
     outcome
-    (started (record { sq = id; count = 2; first = t; second = u; slot = sqAt c id .ring .head; verdict = v }))
+    (started (record { sq = id; count = 2; first = t; second = u; slot = sqAt c id .ring .head; verdict = v; number = n }))
+    (withNextNumber
     (withCommands (withSq c id (passed (sqAt c id) 2))
-    (set (set (c .commands) t (command id (e .cid) v 0 (u + 1))) u (command id (f .cid) v (t + 1) 0)) left a)
+    (set (set (c .commands) t (command id (e .cid) v 0 (u + 1) n)) u (command id (f .cid) v (t + 1) 0 (n + 1))) left a)
+    (n + 2))
     m
 
--- "If the chosen SQ needs more than are free, the answer is 13."
+-- the largest start number
+abbrev pub lastNumber : ℕ
+lastNumber = 18446744073709551614
+
+-- "A start that would need a number above 18,446,744,073,709,551,614 is refused with 32": n is the highest that it needs
+abbrev pub numberRules : ℕ → Table
+numberRules n = (ltb lastNumber n, 32) ∷ []
+
+abbrev pub withNumbers : Controller → Memory → ℕ → Outcome → Outcome
+withNumbers c m n taken = settle (firstMatch (numberRules n)) (refusing c m) taken
+
+-- "If the chosen SQ needs more than are free, the answer is 13", and 32 stands "after 13 in the order".
 abbrev pub withOne : Controller → Memory → (ℕ → ℕ → Outcome) → TakenOne → Outcome
 withOne c m f NoneFree = refusing c m (oneAnswer (c .free) NoneFree .0)
-withOne c m f (Tag t left) = f t left
+withOne c m f (Tag t left) = withNumbers c m (c .nextNumber) (f t left)
 
 abbrev pub withTwo : Controller → Memory → (ℕ → ℕ → ℕ → Outcome) → TakenTwo → Outcome
 withTwo c m f TooFew = refusing c m (twoAnswer (c .free) TooFew .0)
-withTwo c m f (Tags t u left) = f t u left
+withTwo c m f (Tags t u left) = withNumbers c m (c .nextNumber + 1) (f t u left)
 
 -- whether the CID of an entry of queue id is in use
 abbrev pub used : Controller → ℕ → Submission → Bool
@@ -125,7 +143,7 @@ abbrev pub takeFrom : Controller → Memory → Chosen → Outcome
 takeFrom c m C.Nobody = refusing c m (chosenAnswer (c .arbiter) C.Nobody .0)
 takeFrom c m (C.Queue id a) = pick (isPair id (sqAt c id .ring) m) (takePair c m id a) (takeOne c m id a)
 
--- "start 5, 12, 13": 12 and 13 are answered by the choice and by the tags
+-- "start 5, 12, 13", then 32: 12 is answered by the choice, 13 by the tags, 32 by the next number
 abbrev pub startRules : Controller → ℕ → Table
 startRules c n = (outside c n, 5) ∷ []
 

@@ -24,7 +24,7 @@ abbrev pub noCq : CompletionQueue
 noCq = record { ring = noRing; phase = 0 }
 
 abbrev pub noCommand : Command
-noCommand = record { sq = 0; cid = 0; verdict = 0; first = 0; second = 0 }
+noCommand = record { sq = 0; cid = 0; verdict = 0; first = 0; second = 0; number = 0 }
 
 -- the queue of an id and the command of a tag; where the number is too large, what stands for nothing
 abbrev pub sqAt : Controller → ℕ → SubmissionQueue
@@ -54,7 +54,8 @@ abbrev pub cqWithRing : CompletionQueue → Ring → CompletionQueue
 cqWithRing q r = record { ring = r; phase = q .phase }
 
 abbrev pub withQueues : Controller → List SubmissionQueue → List CompletionQueue → Controller
-withQueues c xs ys = record { sqs = xs; cqs = ys; commands = c .commands; free = c .free; arbiter = c .arbiter }
+withQueues c xs ys =
+    record { sqs = xs; cqs = ys; commands = c .commands; free = c .free; arbiter = c .arbiter; nextNumber = c .nextNumber }
 
 abbrev pub withSq : Controller → ℕ → SubmissionQueue → Controller
 withSq c i q = withQueues c (set (c .sqs) i q) (c .cqs)
@@ -63,9 +64,15 @@ abbrev pub withCq : Controller → ℕ → CompletionQueue → Controller
 withCq c i q = withQueues c (c .sqs) (set (c .cqs) i q)
 
 abbrev pub withCommands : Controller → List Command → ℕ → Arbiter → Controller
-withCommands c ks free a = record { sqs = c .sqs; cqs = c .cqs; commands = ks; free = free; arbiter = a }
+withCommands c ks free a =
+    record { sqs = c .sqs; cqs = c .cqs; commands = ks; free = free; arbiter = a; nextNumber = c .nextNumber }
 
--- "A fresh controller has a mechanism .., the 32-bit Arbitration feature word, and no queues", and every tag is free
+abbrev pub withNextNumber : Controller → ℕ → Controller
+withNextNumber c n =
+    record { sqs = c .sqs; cqs = c .cqs; commands = c .commands; free = c .free; arbiter = c .arbiter; nextNumber = n }
+
+-- "A fresh controller has a mechanism .., the 32-bit Arbitration feature word, and no queues", and every tag is free; start numbers
+-- begin at "0 for the first command a controller takes"
 abbrev pub freshController : Bool → ℕ → Controller
 freshController weighted word =
     record {
@@ -74,6 +81,7 @@ freshController weighted word =
       commands = replicate 64 noCommand;
       free = 2 ^ 64 - 1;
       arbiter = fresh weighted word;
+      nextNumber = 0;
     }
 
 -- "mechanism other than 0 or 1" (23)

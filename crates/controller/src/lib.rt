@@ -26,21 +26,24 @@ pub struct CompletionQueue {
 
 // A command that was started. `verdict` is document 01's term: the status that the start has decided on and the finish posts, and 0
 // where none is. `first` is its first half's tag plus 1 while that is outstanding, `second` its second half's tag plus 1; 0 is none.
+// `number` is its start number: how many commands the controller had taken before it.
 pub struct Command {
     pub sq: u8,
     pub cid: u16,
     pub verdict: u16,
     pub first: u8,
     pub second: u8,
+    pub number: u64,
 }
 
-// What a start takes: one command, or a pair.
+// What a start takes: one command, or a pair. `number` is the start number of the first.
 pub enum Started {
     One {
         sq: u8,
         tag: u8,
         slot: u16,
         verdict: u16,
+        number: u64,
     },
     Pair {
         sq: u8,
@@ -48,12 +51,13 @@ pub enum Started {
         second: u8,
         slot: u16,
         verdict: u16,
+        number: u64,
     },
     Refused(u64),
 }
 
-// The slot that a finish posts to.
+// The slot that a finish posts to, and the start number of the command that it posts.
 pub enum Finished {
-    Slot { slot: u16 },
+    Slot { slot: u16, number: u64 },
     Refused(u64),
 }

@@ -167,6 +167,6 @@ module _ (c : Controller) (tag : ℕ) {k : Command} (ek : k ≡ commandAt c tag)
       → c2 ≡ withCq c (x .cq) (posted y)
       → c3 ≡ withCommands c2 (unlinked (c2 .commands) (k .second) s) (c2 .free) (c2 .arbiter)
       → c4 ≡ withCommands c3 (c3 .commands) (givenBack (c3 .free) tag) (c3 .arbiter)
-      → outcome (finished (record { slot = y .ring .tail })) c4 left ≡ perform c m (finish tag status result)
+      → outcome (finished (record { slot = y .ring .tail; number = k .number })) c4 left ≡ perform c m (finish tag status result)
   unfolding finishing.finish finishedController settle
   finish-done m status result e z c2 c3 c4 es el e2 e3 e4 = rw (e4, e3, e2, el, es, y-is, x-is, ek, ← e, z)

@@ -183,5 +183,8 @@ pub fn finish(
     move_on(state, i, y);
     unlink(state, k.second, given);
     give_back(state, tag);
-    Finished::Slot { slot: y.ring.tail }
+    Finished::Slot {
+        slot: y.ring.tail,
+        number: k.number,
+    }
 }

@@ -62,6 +62,11 @@ pub fn put_meaning(out: &mut [u8], at: usize, n: u64) -> usize
         23 => put(out, at, b"mechanism other than 0 or 1"),
         30 => put(out, at, b"an unknown call or a nonzero spare byte"),
         31 => put(out, at, b"a last short record"),
+        32 => put(
+            out,
+            at,
+            b"the start would need a number above 18,446,744,073,709,551,614",
+        ),
         _ => put(out, at, b"see the table of refusals"),
     }
 }

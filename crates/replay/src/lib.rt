@@ -59,6 +59,7 @@ fn started(answer: Started) -> Said
             tag,
             slot,
             verdict,
+            number,
         } => Said {
             refusal: 0,
             result: tag as u64,
@@ -69,6 +70,7 @@ fn started(answer: Started) -> Said
             second,
             slot,
             verdict,
+            number,
         } => Said {
             refusal: 0,
             result: first as u64,
@@ -84,7 +86,7 @@ fn finished(answer: Finished) -> Said
     ensures { λ r. ⌜ (r .refusal ≡ numberOf (ofFinished answer)) × ((x : Call) → r .result ≡ resultOf x (ofFinished answer)) ⌝ }
 {
     match answer {
-        Finished::Slot { slot } => Said {
+        Finished::Slot { slot, number } => Said {
             refusal: 0,
             result: slot as u64,
         },

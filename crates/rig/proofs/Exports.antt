@@ -16,7 +16,7 @@ use Rattle.controller.specs.Calls.{ofNumber}
 use Rattle.store.specs.Held.{held, Sound, Holds}
 use Rattle.replay.specs.Replay.{Ended, ended}
 use Rattle.replay.proofs.Playing.{number-is}
-use Rattle.rig.specs.Numbers.{replayNumbers, noSqNumbers, sqNumbers, noCqNumbers, cqNumbers, commandNumbers, bitOf}
+use Rattle.rig.specs.Numbers.{replayNumbers, noSqNumbers, sqNumbers, noCqNumbers, cqNumbers, noCommandNumbers, commandNumbers, bitOf}
 
 -- ---- calls
 
@@ -96,11 +96,11 @@ module _ (c : Controller) (id : ℕ) where
       cq-0 x = rw (le-ltb _ _ h, ← e, x)
 
 module _ (c : Controller) (tag : ℕ) {b : Bool} (e : b ≡ outstanding (c .free) tag) where
-  pub command-14 : not b ≡ true → record { refusal = 14; sq = 0; cid = 0; verdict = 0 } ≡ commandNumbers c tag
+  pub command-14 : not b ≡ true → noCommandNumbers 14 ≡ commandNumbers c tag
   unfolding commandNumbers settle
   command-14 x = rw (← e, x)
 
   pub command-0 : not b ≡ false → {k : Command} → k ≡ commandAt c tag
-      → record { refusal = 0; sq = k .sq; cid = k .cid; verdict = k .verdict } ≡ commandNumbers c tag
+      → record { refusal = 0; sq = k .sq; cid = k .cid; verdict = k .verdict; number = k .number } ≡ commandNumbers c tag
   unfolding commandNumbers settle
   command-0 x f = rw (← e, x, f)

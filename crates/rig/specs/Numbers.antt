@@ -19,7 +19,7 @@ use Rattle.rig.specs.declared.state.CommandNumbers.{CommandNumbers}
 use Rattle.rig.specs.declared.state.ArbiterNumbers.{ArbiterNumbers}
 
 abbrev pub noStartNumbers : ℕ → StartNumbers
-noStartNumbers n = record { refusal = n; sq = 0; count = 0; first = 0; second = 0; slot = 0; verdict = 0 }
+noStartNumbers n = record { refusal = n; sq = 0; count = 0; first = 0; second = 0; slot = 0; verdict = 0; number = 0 }
 
 abbrev pub startNumbers : Answer → StartNumbers
 startNumbers (refused n) = noStartNumbers n
@@ -33,14 +33,18 @@ startNumbers (started s) =
       second = s .second;
       slot = s .slot;
       verdict = s .verdict;
+      number = s .number;
     }
 startNumbers (finished f) = noStartNumbers 0
 
+abbrev pub noFinishNumbers : ℕ → FinishNumbers
+noFinishNumbers n = record { refusal = n; slot = 0; number = 0 }
+
 abbrev pub finishNumbers : Answer → FinishNumbers
-finishNumbers (refused n) = record { refusal = n; slot = 0 }
-finishNumbers done = record { refusal = 0; slot = 0 }
-finishNumbers (started s) = record { refusal = 0; slot = 0 }
-finishNumbers (finished f) = record { refusal = 0; slot = f .slot }
+finishNumbers (refused n) = noFinishNumbers n
+finishNumbers done = noFinishNumbers 0
+finishNumbers (started s) = noFinishNumbers 0
+finishNumbers (finished f) = record { refusal = 0; slot = f .slot; number = f .number }
 
 -- the refusal, and how many answer records were written
 abbrev pub replayNumbers : ℕ × ℕ → ReplayNumbers
@@ -81,11 +85,14 @@ cqNumbers c id =
     (record { refusal = 0; base = r .base; size = r .size; head = r .head; tail = r .tail; phase = q .phase })
 
 -- the command of a tag: 14 where it is not outstanding
+abbrev pub noCommandNumbers : ℕ → CommandNumbers
+noCommandNumbers n = record { refusal = n; sq = 0; cid = 0; verdict = 0; number = 0 }
+
 unfoldable pub commandNumbers : Controller → ℕ → CommandNumbers
 commandNumbers c tag =
     let k = commandAt c tag in
-    settle (firstMatch ((not (outstanding (c .free) tag), 14) ∷ [])) (λ n. record { refusal = n; sq = 0; cid = 0; verdict = 0 })
-    (record { refusal = 0; sq = k .sq; cid = k .cid; verdict = k .verdict })
+    settle (firstMatch ((not (outstanding (c .free) tag), 14) ∷ [])) noCommandNumbers
+    (record { refusal = 0; sq = k .sq; cid = k .cid; verdict = k .verdict; number = k .number })
 
 -- a remainder without limit is the largest number
 abbrev pub remainderNumber : Remainder → ℕ

@@ -30,12 +30,14 @@ pub struct StartNumbers {
     pub second: u64,
     pub slot: u64,
     pub verdict: u64,
+    pub number: u64,
 }
 
 #[repr(C)]
 pub struct FinishNumbers {
     pub refusal: u64,
     pub slot: u64,
+    pub number: u64,
 }
 
 #[repr(C)]
@@ -72,6 +74,7 @@ pub struct CommandNumbers {
     pub sq: u64,
     pub cid: u64,
     pub verdict: u64,
+    pub number: u64,
 }
 
 // A remainder without limit is the largest number.
@@ -166,6 +169,7 @@ pub extern "C" fn bellrafter_start(state: &mut [u64; WORDS], memory: &[u8]) -> S
             tag,
             slot,
             verdict,
+            number,
         } => StartNumbers {
             refusal: 0,
             sq: sq as u64,
@@ -174,6 +178,7 @@ pub extern "C" fn bellrafter_start(state: &mut [u64; WORDS], memory: &[u8]) -> S
             second: 0,
             slot: slot as u64,
             verdict: verdict as u64,
+            number: number,
         },
         Started::Pair {
             sq,
@@ -181,6 +186,7 @@ pub extern "C" fn bellrafter_start(state: &mut [u64; WORDS], memory: &[u8]) -> S
             second,
             slot,
             verdict,
+            number,
         } => StartNumbers {
             refusal: 0,
             sq: sq as u64,
@@ -189,15 +195,17 @@ pub extern "C" fn bellrafter_start(state: &mut [u64; WORDS], memory: &[u8]) -> S
             second: second as u64,
             slot: slot as u64,
             verdict: verdict as u64,
+            number: number,
         },
-        Started::Refused(number) => StartNumbers {
-            refusal: number,
+        Started::Refused(refusal) => StartNumbers {
+            refusal: refusal,
             sq: 0,
             count: 0,
             first: 0,
             second: 0,
             slot: 0,
             verdict: 0,
+            number: 0,
         },
     }
 }
@@ -215,13 +223,15 @@ pub extern "C" fn bellrafter_finish(
         (r ≡ finishNumbers (o .answer)) × Holds (now (state .exit)) (o .controller) × (now (memory .exit) ≡ o .memory)) ⌝ }
 {
     match finisher::finish(state, memory, tag, status, result) {
-        Finished::Slot { slot } => FinishNumbers {
+        Finished::Slot { slot, number } => FinishNumbers {
             refusal: 0,
             slot: slot as u64,
+            number: number,
         },
-        Finished::Refused(number) => FinishNumbers {
-            refusal: number,
+        Finished::Refused(refusal) => FinishNumbers {
+            refusal: refusal,
             slot: 0,
+            number: 0,
         },
     }
 }
@@ -344,6 +354,7 @@ pub extern "C" fn bellrafter_look_command(state: &[u64; WORDS], tag: u64) -> Com
             sq: 0,
             cid: 0,
             verdict: 0,
+            number: 0,
         };
     }
     let k = command_at(state, tag as usize);
@@ -352,6 +363,7 @@ pub extern "C" fn bellrafter_look_command(state: &[u64; WORDS], tag: u64) -> Com
         sq: k.sq as u64,
         cid: k.cid as u64,
         verdict: k.verdict as u64,
+        number: k.number,
     }
 }
 

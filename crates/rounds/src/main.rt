@@ -89,6 +89,7 @@ fn of_started(answer: Started) -> u64 {
             tag,
             slot,
             verdict,
+            number,
         } => 65536 * (verdict as u64) + 1024 * (slot as u64) + 16 * (tag as u64) + (sq as u64),
         Started::Pair {
             sq,
@@ -96,6 +97,7 @@ fn of_started(answer: Started) -> u64 {
             second,
             slot,
             verdict,
+            number,
         } => {
             65536 * (verdict as u64)
                 + 1024 * (slot as u64)
@@ -109,7 +111,7 @@ fn of_started(answer: Started) -> u64 {
 
 fn of_finished(answer: Finished) -> u64 {
     match answer {
-        Finished::Slot { slot } => slot as u64,
+        Finished::Slot { slot, number } => slot as u64,
         Finished::Refused(number) => number,
     }
 }

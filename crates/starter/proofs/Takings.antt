@@ -5,6 +5,7 @@ use mathlib.Core.Path.{_≡_, refl, sym, _∙_}
 use native.Mathlib.Nat.{mod-eq-of-lt, mod-eq-sub-mod}
 use native.Mathlib.Omega.{arith}
 use lib.ListN.{length, set}
+use borrow.Author.Tests.{lt-ltb, le-ltb}
 use Rattle.rules.specs.Rules.{settle}
 use Rattle.bits.specs.Tags.{takenOne, takenTwo}
 use Rattle.bits.specs.declared.TakenOne.the-variants.{Tag, NoneFree}
@@ -19,13 +20,13 @@ use Rattle.arbiter.specs.declared.Chosen.the-variants.{Queue}
 use Rattle.controller.specs.declared.SubmissionQueue.{SubmissionQueue}
 use Rattle.controller.specs.declared.Started.the-variants as S
 use Rattle.controller.specs.Controller.{Controller}
-use Rattle.controller.specs.State.{sqAt, withHead, sqWithRing, withSq, withCommands}
+use Rattle.controller.specs.State.{sqAt, withHead, sqWithRing, withSq, withCommands, withNextNumber}
 use Rattle.controller.specs.Rings.{outside}
 use Rattle.controller.specs.Verdict.{verdictOne, verdictPair}
 use Rattle.controller.specs.Valid.{Valid}
 use Rattle.controller.specs.Answers.{Outcome, outcome, refusing}
 use Rattle.controller.specs.Starting.{candidates, entryAt, isPair, passed, command, oneTaken, pairTaken, used, headEntry, nextEntry}
-use Rattle.controller.specs.Starting.{takeOne, takePair, takeFrom, start}
+use Rattle.controller.specs.Starting.{lastNumber, takeOne, takePair, takeFrom, start}
 use Rattle.controller.specs.Calls.{ofStarted}
 use Rattle.controller.proofs.Choosing.{chosen}
 use Rattle.controller.proofs.Validity.{candidate-here}
@@ -49,10 +50,10 @@ module _ (c : Controller) where
       → d ≡ withSq c i (passed (sqAt c i) n)
   passed-on i n e f g = rw (g, f, e)
 
-  pub left-with : (d e : Controller) (free : ℕ) (a : Arbiter) → d ≡ withCommands c (c .commands) free (c .arbiter)
-      → e ≡ withCommands d (d .commands) (d .free) a
-      → e ≡ withCommands c (c .commands) free a
-  left-with d e free a p q = rw (q, p)
+  pub left-with : (d e f : Controller) (free : ℕ) (a : Arbiter) (n : ℕ) → d ≡ withCommands c (c .commands) free (c .arbiter)
+      → e ≡ withCommands d (d .commands) (d .free) a → f ≡ withNextNumber e n
+      → f ≡ withNextNumber (withCommands c (c .commands) free a) n
+  left-with d e f free a n p q r = rw (r, q, p)
 
 -- ---- what is taken from queue id, with the arbiter a left
 
@@ -65,28 +66,38 @@ module _ (c : Controller) (m : Memory) (id : ℕ) (a : Arbiter) where
   unfolding takePair
   pair-refused q = rw q
 
-  -- the head moves, then the command is stored, then the tags and the turn that are left
+  pub one-numberless : {t left : ℕ} → takenOne (c .free) ≡ Tag t left → {n : ℕ} → n ≡ c .nextNumber → lastNumber < n
+      → refusing c m 32 ≡ takeOne c m id a
+  unfolding takeOne settle
+  one-numberless q e l = rw (q, ← e, lt-ltb _ _ l)
+
+  pub pair-numberless : {t u left : ℕ} → takenTwo (c .free) ≡ Tags t u left → {n : ℕ} → n ≡ c .nextNumber → lastNumber ≤ n
+      → refusing c m 32 ≡ takePair c m id a
+  unfolding takePair settle
+  pair-numberless q {n} e l = rw (q, ← e, lt-ltb lastNumber (n + 1) (omega arith))
+
+  -- the head moves, then the command is stored, then the tags, the turn and the next number that are left
   pub one-started : {e : Submission} → e ≡ headEntry c m id → {t left : ℕ} → takenOne (c .free) ≡ Tag t left
       → {u : Bool} → u ≡ (used c id e || used c id e) → {v : ℕ} → v ≡ verdictOne id e u
-      → {slot : ℕ} → slot ≡ sqAt c id .ring .head
+      → {slot : ℕ} → slot ≡ sqAt c id .ring .head → {n : ℕ} → n ≡ c .nextNumber → n ≤ lastNumber
       → (d k l : Controller) → d ≡ withSq c id (passed (sqAt c id) 1)
-      → k ≡ withCommands d (set (d .commands) t (command id (e .cid) v 0 0)) (d .free) (d .arbiter)
-      → l ≡ withCommands k (k .commands) left a
-      → outcome (ofStarted (S.One id t slot v)) l m ≡ takeOne c m id a
-  unfolding takeOne oneTaken
-  one-started h q x y s d k l f g w = rw (w, g, f, s, y, x, or-same, h, q)
+      → k ≡ withCommands d (set (d .commands) t (command id (e .cid) v 0 0 n)) (d .free) (d .arbiter)
+      → l ≡ withNextNumber (withCommands k (k .commands) left a) (n + 1)
+      → outcome (ofStarted (S.One id t slot v n)) l m ≡ takeOne c m id a
+  unfolding takeOne oneTaken settle
+  one-started h q x y s {n} i b d k l f g w = rw (w, g, f, s, y, x, or-same, h, q, ← i, le-ltb lastNumber n b)
 
   pub pair-started : {e f : Submission} → e ≡ headEntry c m id → f ≡ nextEntry c m id
       → {t u left : ℕ} → takenTwo (c .free) ≡ Tags t u left
       → {v : ℕ} → v ≡ verdictPair e f (used c id e) (used c id f)
-      → {slot : ℕ} → slot ≡ sqAt c id .ring .head
+      → {slot : ℕ} → slot ≡ sqAt c id .ring .head → {n : ℕ} → n ≡ c .nextNumber → n < lastNumber
       → (d j k l : Controller) → d ≡ withSq c id (passed (sqAt c id) 2)
-      → j ≡ withCommands d (set (d .commands) t (command id (e .cid) v 0 (u + 1))) (d .free) (d .arbiter)
-      → k ≡ withCommands j (set (j .commands) u (command id (f .cid) v (t + 1) 0)) (j .free) (j .arbiter)
-      → l ≡ withCommands k (k .commands) left a
-      → outcome (ofStarted (S.Pair id t u slot v)) l m ≡ takePair c m id a
-  unfolding takePair pairTaken
-  pair-started h i q y s d j k l f g w z = rw (z, w, g, f, s, y, h, i, q)
+      → j ≡ withCommands d (set (d .commands) t (command id (e .cid) v 0 (u + 1) n)) (d .free) (d .arbiter)
+      → k ≡ withCommands j (set (j .commands) u (command id (f .cid) v (t + 1) 0 (n + 1))) (j .free) (j .arbiter)
+      → l ≡ withNextNumber (withCommands k (k .commands) left a) (n + 2)
+      → outcome (ofStarted (S.Pair id t u slot v n)) l m ≡ takePair c m id a
+  unfolding takePair pairTaken settle
+  pair-started h i q y s {n} x b d j k l f g w z = rw (z, w, g, f, s, y, h, i, q, ← x, le-ltb lastNumber (n + 1) (omega arith))
 
   -- by what stands at the head of the queue that was read
   module _ {q : SubmissionQueue} (e : q ≡ sqAt c id) {p : Bool} (f : p ≡ isPair id (q .ring) m)

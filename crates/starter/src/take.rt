@@ -5,7 +5,7 @@ ghost use Rattle.le.specs.Memory.{Memory};
 ghost use Rattle.controller.specs.Answers.{outcome};
 ghost use Rattle.controller.specs.Calls.{ofStarted};
 ghost use Rattle.controller.specs.Starting.{passed, headEntry, nextEntry, takeOne, takePair};
-ghost use Rattle.controller.specs.State.{sqAt, withSq, withCommands};
+ghost use Rattle.controller.specs.State.{sqAt, withSq, withCommands, withNextNumber};
 ghost use Rattle.controller.specs.Valid.{RingOk};
 ghost use Rattle.store.specs.Held.{held, Sound, Holds};
 use crate::verdict::in_use;
@@ -18,11 +18,14 @@ use controller::Command;
 use controller::Ring;
 use controller::Started;
 use entry::submission::Submission;
+use store::Controller;
 use store::WORDS;
 use store::free_of;
+use store::next_number;
 use store::put_arbiter;
 use store::put_command;
 use store::put_free;
+use store::put_next_number;
 use store::put_sq_head;
 use store::sq_at;
 
@@ -48,14 +51,15 @@ fn pass(state: &mut [u64; WORDS], i: usize, n: u16) -> u16
     r.head
 }
 
-// The tags that are left free, and whose turn it is then.
-fn leave(state: &mut [u64; WORDS], free: u64, arbiter: Arbiter)
+// The tags that are left free, whose turn it is then, and the next start number.
+fn leave(state: &mut [u64; WORDS], free: u64, arbiter: Arbiter, number: u64)
     requires { ⌜ Sound (now state) ⌝ }
     ensures { λ _. ⌜ (let c = held (now (state .entry)) in
-        Holds (now (state .exit)) (withCommands c (c .commands) free arbiter)) ⌝ }
+        Holds (now (state .exit)) (withNextNumber (withCommands c (c .commands) free arbiter) number)) ⌝ }
 {
     put_free(state, free);
     put_arbiter(state, arbiter);
+    put_next_number(state, number);
 }
 
 // The entry e at the head of queue id is taken with the lowest free tag.
@@ -67,6 +71,10 @@ pub fn take_one(state: &mut [u64; WORDS], id: u8, next: Arbiter, e: Submission) 
     let TakenOne::Tag(tag, left) = bits::take_one(free_of(state)) else {
         return Started::Refused(13);
     };
+    let number = next_number(state);
+    if Controller::LAST_NUMBER < number {
+        return Started::Refused(32);
+    }
     let t = tag as u8;
     let verdict = verdict_one(id, e, in_use(state, id, e.cid, e.cid));
     let slot = pass(state, id as usize, 1);
@@ -79,14 +87,16 @@ pub fn take_one(state: &mut [u64; WORDS], id: u8, next: Arbiter, e: Submission) 
             verdict: verdict,
             first: 0,
             second: 0,
+            number: number,
         },
     );
-    leave(state, left, next);
+    leave(state, left, next, number + 1);
     Started::One {
         sq: id,
         tag: t,
         slot: slot,
         verdict: verdict,
+        number: number,
     }
 }
 
@@ -105,6 +115,10 @@ pub fn take_pair(
     let TakenTwo::Tags(first, second, left) = bits::take_two(free_of(state)) else {
         return Started::Refused(13);
     };
+    let number = next_number(state);
+    if Controller::LAST_NUMBER <= number {
+        return Started::Refused(32);
+    }
     let t = first as u8;
     let u = second as u8;
     let verdict = verdict_pair(e, f, in_use(state, id, e.cid, f.cid));
@@ -118,6 +132,7 @@ pub fn take_pair(
             verdict: verdict,
             first: 0,
             second: u + 1,
+            number: number,
         },
     );
     put_command(
@@ -129,14 +144,16 @@ pub fn take_pair(
             verdict: verdict,
             first: t + 1,
             second: 0,
+            number: number + 1,
         },
     );
-    leave(state, left, next);
+    leave(state, left, next, number + 2);
     Started::Pair {
         sq: id,
         first: t,
         second: u,
         slot: slot,
         verdict: verdict,
+        number: number,
     }
 }

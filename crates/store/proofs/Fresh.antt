@@ -5,6 +5,7 @@ use mathlib.Core.List.{List}
 use mathlib.Core.Path.{_≡_, refl, ap, _∙_}
 use native.Mathlib.Nat.{pos-of-ne-zero}
 use native.Mathlib.Omega.{arith}
+use lib.Dec.{lit<}
 use lib.ListN.{length, replicate, length-replicate}
 use borrow.Author.Tests.{lt-ltb}
 use Rattle.rules.proofs.Tables.{passed}
@@ -21,19 +22,19 @@ use Rattle.store.proofs.Tables.{table-same}
 use Rattle.store.proofs.Stores.{sq-from, cq-from, command-from}
 
 -- no word is too narrow for 0
-limit-positive : (k : ℕ) → k < 558 → 0 < limitAt k
+limit-positive : (k : ℕ) → k < 623 → 0 < limitAt k
 unfolding limitAt
 limit-positive k l =
     pos-of-ne-zero
-    (λ z. clash (lt-ltb k 558 l) (passed (limits k) tt z .1 .1 .1 .1 .1 .1 .1 .1 .1 .1 .1 .1 .1 .1 .1 .1 .0))
+    (λ z. clash (lt-ltb k 623 l) (passed (limits k) tt z .1 .1 .1 .1 .1 .1 .1 .1 .1 .1 .1 .1 .1 .1 .1 .1 .1 .0))
 
 -- words that are all 0
 pub record Zeros (w : List ℕ) : Type 0 where
-  pub sized : length w ≡ 558
-  pub zero : (k : ℕ) → k < 558 → word w k ≡ 0
+  pub sized : length w ≡ 623
+  pub zero : (k : ℕ) → k < 623 → word w k ≡ 0
 
-pub zeros : Zeros (replicate 558 0)
-zeros = record { sized = length-replicate {A = ℕ} 558 0; zero = λ k l. zero-at 558 k }
+pub zeros : Zeros (replicate 623 0)
+zeros = record { sized = length-replicate {A = ℕ} 623 0; zero = λ k l. zero-at 623 k }
   where
     zero-at : (n k : ℕ) → word (replicate n 0) k ≡ 0
     zero-at zero k = refl
@@ -62,7 +63,7 @@ module _ (w : List ℕ) (z : Zeros w) where
   -- the mask and the arbiter stored, it is a fresh controller
   zeros-fresh : (weighted : Bool) (feature : ℕ)
       → withCommands (held w) (held w .commands) (2 ^ 64 - 1) (fresh weighted feature) ≡ freshController weighted feature
-  zeros-fresh weighted feature = rw (zeros-sqs, zeros-cqs, zeros-commands)
+  zeros-fresh weighted feature = rw (zeros-sqs, zeros-cqs, zeros-commands, z .zero 622 (lit< tt))
 
   pub fresh-held : (weighted : Bool) (feature : ℕ) (u v : List ℕ) {a : Arbiter}
       → held u ≡ withCommands (held w) (held w .commands) (2 ^ 64 - 1) (held w .arbiter) → a ≡ fresh weighted feature

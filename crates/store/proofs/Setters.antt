@@ -13,11 +13,12 @@ use Rattle.controller.specs.declared.SubmissionQueue.{SubmissionQueue}
 use Rattle.controller.specs.declared.CompletionQueue.{CompletionQueue}
 use Rattle.controller.specs.declared.Command.{Command}
 use Rattle.controller.specs.Controller.{Controller}
-use Rattle.controller.specs.State.{sqAt, cqAt, withHead, withTail, sqWithRing, withSq, withCq, withCommands}
+use Rattle.controller.specs.State.{sqAt, cqAt, withHead, withTail, sqWithRing, withSq, withCq, withCommands, withNextNumber}
 use Rattle.controller.specs.Doorbell.{tailMoved, headMoved, mark}
 use Rattle.store.specs.Held.{flag, remainderFrom, sqOf, cqOf, held, limitAt, Sound, Holds}
 use Rattle.store.proofs.Words.{stored}
-use Rattle.store.proofs.Stores.{sq-held, cq-held, sq-stored, cq-stored, command-stored, free-stored, arbiter-stored}
+use Rattle.store.proofs.Stores.{sq-held, cq-held, sq-stored, cq-stored, command-stored, free-stored, next-stored}
+use Rattle.store.proofs.Stores.{arbiter-stored}
 
 -- ---- how wide the words are
 
@@ -112,6 +113,23 @@ module _ (k : ℕ) where
         lt-ltb k 544 h,
       )
 
+  pub limit-609 : 544 ≤ k → k < 609 → limitAt k ≡ 2 ^ 64
+  unfolding limitAt
+  limit-609 l h =
+      rw (
+        le-ltb k 16 (omega arith),
+        le-ltb k 64 (omega arith),
+        le-ltb k 96 (omega arith),
+        le-ltb k 128 (omega arith),
+        le-ltb k 144 (omega arith),
+        le-ltb k 192 (omega arith),
+        le-ltb k 208 (omega arith),
+        le-ltb k 288 (omega arith),
+        le-ltb k 416 (omega arith),
+        le-ltb k 544 l,
+        lt-ltb k 609 h,
+      )
+
 -- ---- the words of each part, by their distance from the first
 
 abbrev pub sqWords : SubmissionQueue → ℕ → ℕ → List (ℕ × ℕ)
@@ -125,7 +143,7 @@ cqWords q exists =
     (0, r .base) ∷ (16, r .size) ∷ (32, r .head) ∷ (48, r .tail) ∷ (64, exists) ∷ (80, q .phase) ∷ []
 
 abbrev pub commandWords : Command → List (ℕ × ℕ)
-commandWords k = (0, k .sq) ∷ (64, k .cid) ∷ (128, k .verdict) ∷ (192, k .first) ∷ (256, k .second) ∷ []
+commandWords k = (0, k .sq) ∷ (64, k .cid) ∷ (128, k .verdict) ∷ (192, k .first) ∷ (256, k .second) ∷ (320, k .number) ∷ []
 
 abbrev pub arbiterWords : Arbiter → (weighted group high medium low : ℕ) → List (ℕ × ℕ)
 arbiterWords a weighted group high medium low =
@@ -258,12 +276,13 @@ module _ (w : List ℕ) (h : Sound w) where
   -- ---- commands
 
   pub command-put : (t : ℕ) → t < 64 → (k : Command) → k .sq < 256 → k .cid < 65536 → k .verdict < 65536 → k .first < 256 → k .second < 256
+      → k .number < 2 ^ 64
       → Holds (stored w (t + 224) (commandWords k))
       (withCommands c (set (c .commands) t k) (c .free) (c .arbiter))
-  command-put t l k s d v f n =
+  command-put t l k s d v f n x =
       holds
       (command-stored w h (commandWords k) t l
-      ((0, lit< tt, refl), ((1, lit< tt, refl), ((2, lit< tt, refl), ((3, lit< tt, refl), ((4, lit< tt, refl), tt))))) (
+      ((0, lit< tt, refl), ((1, lit< tt, refl), ((2, lit< tt, refl), ((3, lit< tt, refl), ((4, lit< tt, refl), ((5, lit< tt, refl), tt)))))) (
         rw (limit-288 (t + 224 + 0) (omega arith) (omega arith)) s,
         (
           rw (limit-416 (t + 224 + 64) (omega arith) (omega arith)) d,
@@ -271,16 +290,25 @@ module _ (w : List ℕ) (h : Sound w) where
             rw (limit-416 (t + 224 + 128) (omega arith) (omega arith)) v,
             (
               rw (limit-544 (t + 224 + 192) (omega arith) (omega arith)) f,
-              (rw (limit-544 (t + 224 + 256) (omega arith) (omega arith)) n, tt),
+              (
+                rw (limit-544 (t + 224 + 256) (omega arith) (omega arith)) n,
+                (rw (limit-609 (t + 224 + 320) (omega arith) (omega arith)) x, tt),
+              ),
             ),
           ),
         ),
       ))
       (rw (mod-eq-of-lt s, mod-eq-of-lt d, mod-eq-of-lt v, mod-eq-of-lt f, mod-eq-of-lt n))
 
-  pub free-put : (mask : ℕ) → mask < 2 ^ 64 → Holds (set w 544 mask) (withCommands c (c .commands) mask (c .arbiter))
+  pub free-put : (mask : ℕ) → mask < 2 ^ 64 → Holds (set w 608 mask) (withCommands c (c .commands) mask (c .arbiter))
   unfolding limitAt
   free-put mask b = free-stored w h ((0, mask) ∷ []) ((0, lit< tt, refl), tt) (b, tt)
+
+  -- ---- the next start number
+
+  pub next-put : (n : ℕ) → n < 2 ^ 64 → Holds (set w 622 n) (withNextNumber c n)
+  unfolding limitAt
+  next-put n b = next-stored w h ((0, n) ∷ []) ((0, lit< tt, refl), tt) (b, tt)
 
   -- ---- the arbiter
 
@@ -291,7 +319,7 @@ module _ (w : List ℕ) (h : Sound w) where
   pub arbiter-put : (a : Arbiter) → Wide a → (b g hi me lo : ℕ) → (flag b ≡ a .weighted) × (b < 2)
       → For g (a .group .remainder) → For hi (a .high .group .remainder) → For me (a .medium .group .remainder)
       → For lo (a .low .group .remainder)
-      → Holds (stored w 545 (arbiterWords a b g hi me lo)) (withCommands c (c .commands) (c .free) a)
+      → Holds (stored w 609 (arbiterWords a b g hi me lo)) (withCommands c (c .commands) (c .free) a)
   unfolding limitAt
   arbiter-put a k b g hi me lo x p q r s =
       holds

@@ -59,13 +59,13 @@ same-remainder x y a b e =
 
 module _ (w u : List ℕ) (h : Sound w) (g : Sound u) (e : held w ≡ held u) where
   -- the words at a place are below what its field allows
-  low : (k n : ℕ) → k < 558 → limitAt k ≡ n → (word w k < n) × (word u k < n)
+  low : (k n : ℕ) → k < 623 → limitAt k ≡ n → (word w k < n) × (word u k < n)
   low k n l q = (rw q at (h .narrow k l), rw q at (g .narrow k l))
 
-  numbers : (k n : ℕ) → k < 558 → limitAt k ≡ n → word w k % n ≡ word u k % n → word w k ≡ word u k
+  numbers : (k n : ℕ) → k < 623 → limitAt k ≡ n → word w k % n ≡ word u k % n → word w k ≡ word u k
   numbers k n l q f = let b = low k n l q in same-low n (b .0) (b .1) f
 
-  flags : (k : ℕ) → k < 558 → limitAt k ≡ 2 → flag (word w k) ≡ flag (word u k) → word w k ≡ word u k
+  flags : (k : ℕ) → k < 623 → limitAt k ≡ 2 → flag (word w k) ≡ flag (word u k) → word w k ≡ word u k
   flags k l q f = let b = low k 2 l q in same-flag _ _ (b .0) (b .1) f
 
   module _ (i : ℕ) (l : i < 16) where
@@ -114,7 +114,7 @@ module _ (w u : List ℕ) (h : Sound w) (g : Sound u) (e : held w ≡ held u) wh
     unfolding commandOf
     command = sym (command-held w t l) ∙ ap (λ c. commandAt c t) e ∙ command-held u t l
 
-    command-words : (a : ℕ) → a < 5 → word w (t + 224 + 64 * a) ≡ word u (t + 224 + 64 * a)
+    command-words : (a : ℕ) → a < 6 → word w (t + 224 + 64 * a) ≡ word u (t + 224 + 64 * a)
     command-words zero b =
         numbers (t + 224 + 0) _ (omega arith) (limit-288 _ (omega arith) (omega arith)) (ap (λ (k : Command). k .sq) command)
     command-words (suc zero) b =
@@ -125,53 +125,57 @@ module _ (w u : List ℕ) (h : Sound w) (g : Sound u) (e : held w ≡ held u) wh
         numbers (t + 224 + 192) _ (omega arith) (limit-544 _ (omega arith) (omega arith)) (ap (λ (k : Command). k .first) command)
     command-words (suc (suc (suc (suc zero)))) b =
         numbers (t + 224 + 256) _ (omega arith) (limit-544 _ (omega arith) (omega arith)) (ap (λ (k : Command). k .second) command)
-    command-words (suc (suc (suc (suc (suc a))))) b = absurd (omega arith)
+    command-words (suc (suc (suc (suc (suc zero))))) b = ap (λ (k : Command). k .number) command
+    command-words (suc (suc (suc (suc (suc (suc a)))))) b = absurd (omega arith)
 
-  arbiter : arbiterFrom (from w 545) ≡ arbiterFrom (from u 545)
+  arbiter : arbiterFrom (from w 609) ≡ arbiterFrom (from u 609)
   unfolding arbiterOf
   arbiter = ap (λ (c : Controller). c .arbiter) e
 
-  remainders : (k : ℕ) → k < 558 → limitAt k ≡ 4294967297 → remainderFrom (word w k) ≡ remainderFrom (word u k) → word w k ≡ word u k
+  remainders : (k : ℕ) → k < 623 → limitAt k ≡ 4294967297 → remainderFrom (word w k) ≡ remainderFrom (word u k) → word w k ≡ word u k
   remainders k l q f = let b = low k 4294967297 l q in same-remainder _ _ (b .0) (b .1) f
 
-  arbiter-words : (a : ℕ) → a < 13 → word w (545 + a) ≡ word u (545 + a)
+  arbiter-words : (a : ℕ) → a < 13 → word w (609 + a) ≡ word u (609 + a)
   unfolding limitAt
-  arbiter-words zero b = flags 545 (lit< tt) refl (ap (λ (a : Arbiter). a .weighted) arbiter)
-  arbiter-words (suc zero) b = numbers 546 4294967296 (lit< tt) refl (ap (λ (a : Arbiter). a .word) arbiter)
-  arbiter-words (suc (suc zero)) b = numbers 547 4294967296 (lit< tt) refl (ap (λ (a : Arbiter). a .group .holder) arbiter)
-  arbiter-words (suc (suc (suc zero))) b = remainders 548 (lit< tt) refl (ap (λ (a : Arbiter). a .group .remainder) arbiter)
+  arbiter-words zero b = flags 609 (lit< tt) refl (ap (λ (a : Arbiter). a .weighted) arbiter)
+  arbiter-words (suc zero) b = numbers 610 4294967296 (lit< tt) refl (ap (λ (a : Arbiter). a .word) arbiter)
+  arbiter-words (suc (suc zero)) b = numbers 611 4294967296 (lit< tt) refl (ap (λ (a : Arbiter). a .group .holder) arbiter)
+  arbiter-words (suc (suc (suc zero))) b = remainders 612 (lit< tt) refl (ap (λ (a : Arbiter). a .group .remainder) arbiter)
   arbiter-words (suc (suc (suc (suc zero)))) b =
-      numbers 549 4294967296 (lit< tt) refl (ap (λ (a : Arbiter). a .high .group .holder) arbiter)
+      numbers 613 4294967296 (lit< tt) refl (ap (λ (a : Arbiter). a .high .group .holder) arbiter)
   arbiter-words (suc (suc (suc (suc (suc zero))))) b =
-      remainders 550 (lit< tt) refl (ap (λ (a : Arbiter). a .high .group .remainder) arbiter)
+      remainders 614 (lit< tt) refl (ap (λ (a : Arbiter). a .high .group .remainder) arbiter)
   arbiter-words (suc (suc (suc (suc (suc (suc zero)))))) b =
-      numbers 551 4294967296 (lit< tt) refl (ap (λ (a : Arbiter). a .high .credit) arbiter)
+      numbers 615 4294967296 (lit< tt) refl (ap (λ (a : Arbiter). a .high .credit) arbiter)
   arbiter-words (suc (suc (suc (suc (suc (suc (suc zero))))))) b =
-      numbers 552 4294967296 (lit< tt) refl (ap (λ (a : Arbiter). a .medium .group .holder) arbiter)
+      numbers 616 4294967296 (lit< tt) refl (ap (λ (a : Arbiter). a .medium .group .holder) arbiter)
   arbiter-words (suc (suc (suc (suc (suc (suc (suc (suc zero)))))))) b =
-      remainders 553 (lit< tt) refl (ap (λ (a : Arbiter). a .medium .group .remainder) arbiter)
+      remainders 617 (lit< tt) refl (ap (λ (a : Arbiter). a .medium .group .remainder) arbiter)
   arbiter-words (suc (suc (suc (suc (suc (suc (suc (suc (suc zero))))))))) b =
-      numbers 554 4294967296 (lit< tt) refl (ap (λ (a : Arbiter). a .medium .credit) arbiter)
+      numbers 618 4294967296 (lit< tt) refl (ap (λ (a : Arbiter). a .medium .credit) arbiter)
   arbiter-words (suc (suc (suc (suc (suc (suc (suc (suc (suc (suc zero)))))))))) b =
-      numbers 555 4294967296 (lit< tt) refl (ap (λ (a : Arbiter). a .low .group .holder) arbiter)
+      numbers 619 4294967296 (lit< tt) refl (ap (λ (a : Arbiter). a .low .group .holder) arbiter)
   arbiter-words (suc (suc (suc (suc (suc (suc (suc (suc (suc (suc (suc zero))))))))))) b =
-      remainders 556 (lit< tt) refl (ap (λ (a : Arbiter). a .low .group .remainder) arbiter)
+      remainders 620 (lit< tt) refl (ap (λ (a : Arbiter). a .low .group .remainder) arbiter)
   arbiter-words (suc (suc (suc (suc (suc (suc (suc (suc (suc (suc (suc (suc zero)))))))))))) b =
-      numbers 557 4294967296 (lit< tt) refl (ap (λ (a : Arbiter). a .low .credit) arbiter)
+      numbers 621 4294967296 (lit< tt) refl (ap (λ (a : Arbiter). a .low .credit) arbiter)
   arbiter-words (suc (suc (suc (suc (suc (suc (suc (suc (suc (suc (suc (suc (suc a))))))))))))) b = absurd (omega arith)
 
   -- every word is the same
-  same : (k : ℕ) → k < 558 → word w k ≡ word u k
+  same : (k : ℕ) → k < 623 → word w k ≡ word u k
   same k l =
       ⊎-elim (λ (a : k < 128). rw (sq-place k) (sq-words (k % 16) (mod-lt k (lit< tt)) (k / 16) (omega arith)))
       (λ (a : 128 ≤ k).
       ⊎-elim (λ (b : k < 224). rw (cq-place k a) (cq-words ((k - 128) % 16) (mod-lt _ (lit< tt)) ((k - 128) / 16) (omega arith)))
       (λ (b : 224 ≤ k).
-      ⊎-elim (λ (c : k < 544). rw (command-place k b) (command-words ((k - 224) % 64) (mod-lt _ (lit< tt)) ((k - 224) / 64) (omega arith)))
-      (λ (c : 544 ≤ k).
-      ⊎-elim (λ (d : k < 545). rw (free-place k c d) (ap (λ (x : Controller). x .free) e))
-      (λ (d : 545 ≤ k). rw (arbiter-place k d) (arbiter-words (k - 545) (omega arith))) (lt-or-ge k 545))
-      (lt-or-ge k 544))
+      ⊎-elim (λ (c : k < 608). rw (command-place k b) (command-words ((k - 224) % 64) (mod-lt _ (lit< tt)) ((k - 224) / 64) (omega arith)))
+      (λ (c : 608 ≤ k).
+      ⊎-elim (λ (d : k < 609). rw (free-place k c d) (ap (λ (x : Controller). x .free) e))
+      (λ (d : 609 ≤ k).
+      ⊎-elim (λ (x : k < 622). rw (arbiter-place k d) (arbiter-words (k - 609) (omega arith)))
+      (λ (x : 622 ≤ k). rw (next-place k x l) (ap (λ (x : Controller). x .nextNumber) e)) (lt-or-ge k 622))
+      (lt-or-ge k 609))
+      (lt-or-ge k 608))
       (lt-or-ge k 224))
       (lt-or-ge k 128)
     where
@@ -184,11 +188,14 @@ module _ (w u : List ℕ) (h : Sound w) (g : Sound u) (e : held w ≡ held u) wh
       command-place : (k : ℕ) → 224 ≤ k → k ≡ (k - 224) % 64 + 224 + 64 * ((k - 224) / 64)
       command-place k a = omega arith
 
-      free-place : (k : ℕ) → 544 ≤ k → k < 545 → k ≡ 544
+      free-place : (k : ℕ) → 608 ≤ k → k < 609 → k ≡ 608
       free-place k a b = omega arith
 
-      arbiter-place : (k : ℕ) → 545 ≤ k → k ≡ 545 + (k - 545)
+      arbiter-place : (k : ℕ) → 609 ≤ k → k ≡ 609 + (k - 609)
       arbiter-place k a = omega arith
+
+      next-place : (k : ℕ) → 622 ≤ k → k < 623 → k ≡ 622
+      next-place k a b = omega arith
 
   -- so a call's contract, which says what controller the words left hold, fixes every word of them
   pub unique : w ≡ u

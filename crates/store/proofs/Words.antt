@@ -36,15 +36,15 @@ abbrev pub Narrow : ℕ → List (ℕ × ℕ) → Type 0
 Narrow p [] = Unit {0}
 Narrow p (f ∷ fs) = (f .1 < limitAt (p + f .0)) × Narrow p fs
 
-module _ (s n p : ℕ) (inside : (a : ℕ) → a < n → p + s * a < 558) where
-  place-in : (o : ℕ) → (a : ℕ) × (a < n) × (o ≡ s * a) → p + o < 558
+module _ (s n p : ℕ) (inside : (a : ℕ) → a < n → p + s * a < 623) where
+  place-in : (o : ℕ) → (a : ℕ) × (a < n) × (o ≡ s * a) → p + o < 623
   place-in o h = rw (h .2) (inside (h .0) (h .1))
 
-  pub stored-sized : (w : List ℕ) (fs : List (ℕ × ℕ)) → length w ≡ 558 → length (stored w p fs) ≡ 558
+  pub stored-sized : (w : List ℕ) (fs : List (ℕ × ℕ)) → length w ≡ 623 → length (stored w p fs) ≡ 623
   stored-sized w [] l = l
   stored-sized w (f ∷ fs) l = stored-sized (set w (p + f .0) (f .1)) fs (length-set w (p + f .0) (f .1) ∙ l)
 
-  pub stored-here : (w : List ℕ) (fs : List (ℕ × ℕ)) → length w ≡ 558 → Fields s n fs
+  pub stored-here : (w : List ℕ) (fs : List (ℕ × ℕ)) → length w ≡ 623 → Fields s n fs
       → (o : ℕ) → from (stored w p fs) p o ≡ lookup fs o (from w p o)
   stored-here w [] l ok o = refl
   stored-here w (f ∷ fs) l ok o =

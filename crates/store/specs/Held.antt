@@ -43,7 +43,14 @@ cqFrom f = record { ring = ringFrom f; phase = f 80 % 256 }
 
 abbrev pub commandFrom : (ℕ → ℕ) → Command
 commandFrom f =
-    record { sq = f 0 % 256; cid = f 64 % 65536; verdict = f 128 % 65536; first = f 192 % 256; second = f 256 % 256 }
+    record {
+      sq = f 0 % 256;
+      cid = f 64 % 65536;
+      verdict = f 128 % 65536;
+      first = f 192 % 256;
+      second = f 256 % 256;
+      number = f 320;
+    }
 
 abbrev pub remainderFrom : ℕ → Remainder
 remainderFrom x = pick (ltb x 4294967296) (Left x) NoLimit
@@ -77,7 +84,7 @@ unfoldable pub commandOf : List ℕ → ℕ → Command
 commandOf w t = commandFrom (from w (t + 224))
 
 unfoldable pub arbiterOf : List ℕ → Arbiter
-arbiterOf w = arbiterFrom (from w 545)
+arbiterOf w = arbiterFrom (from w 609)
 
 -- the values at the numbers below n
 unfoldable pub table : {A : Type 0} → ℕ → (ℕ → A) → List A
@@ -90,8 +97,9 @@ held w =
       sqs = table 16 (sqOf w);
       cqs = table 16 (cqOf w);
       commands = table 64 (commandOf w);
-      free = word w 544;
+      free = word w 608;
       arbiter = arbiterOf w;
+      nextNumber = word w 622;
     }
 
 -- ---- what is assumed of them
@@ -109,21 +117,22 @@ limits k =
     ∷ (ltb k 288, 256)
     ∷ (ltb k 416, 65536)
     ∷ (ltb k 544, 256)
-    ∷ (eqb k 544, 2 ^ 64)
-    ∷ (eqb k 545, 2)
-    ∷ (eqb k 548, 4294967297)
-    ∷ (eqb k 550, 4294967297)
-    ∷ (eqb k 553, 4294967297)
-    ∷ (eqb k 556, 4294967297)
-    ∷ (ltb k 558, 4294967296)
+    ∷ (ltb k 609, 2 ^ 64)
+    ∷ (eqb k 609, 2)
+    ∷ (eqb k 612, 4294967297)
+    ∷ (eqb k 614, 4294967297)
+    ∷ (eqb k 617, 4294967297)
+    ∷ (eqb k 620, 4294967297)
+    ∷ (ltb k 622, 4294967296)
+    ∷ (ltb k 623, 2 ^ 64)
     ∷ []
 
 unfoldable pub limitAt : ℕ → ℕ
 limitAt k = firstMatch (limits k)
 
 pub record Sound (w : List ℕ) : Type 0 where
-  pub sized : length w ≡ 558
-  pub narrow : (k : ℕ) → k < 558 → word w k < limitAt k
+  pub sized : length w ≡ 623
+  pub narrow : (k : ℕ) → k < 623 → word w k < limitAt k
 
 -- the words hold the controller
 pub record Holds (w : List ℕ) (c : Controller) : Type 0 where

@@ -5,6 +5,7 @@ ghost use Prim.Native.Nat.{_+_, _%_, _≤_, _<_};
 ghost use lib.ListN.{set};
 ghost use Rattle.controller.specs.Doorbell.{tailMoved, headMoved, mark};
 ghost use Rattle.controller.specs.State.{outstanding, sqAt, cqAt, commandAt, withHead, withTail, sqWithRing, withSq, withCq, withCommands};
+ghost use Rattle.controller.specs.State.{withNextNumber};
 ghost use Rattle.controller.specs.State.{freshController, newRefusal, newController};
 ghost use Rattle.store.specs.Held.{flag, ringFrom, remainderFrom, groupFrom, levelFrom, from, held, Sound, Holds};
 use arbiter::Arbiter;
@@ -16,14 +17,15 @@ use controller::CompletionQueue;
 use controller::Ring;
 use controller::SubmissionQueue;
 
-pub const WORDS: usize = 558;
+pub const WORDS: usize = 623;
 
-// Where the words of the queues, the commands, the mask of free tags and the arbiter begin. Submission queues begin at 0.
+// Where the words of the queues, the commands, the mask of free tags, the arbiter and the next start number begin. Submission queues
+// begin at 0.
 const CQ: usize = 128;
 
 const COMMAND: usize = 224;
 
-const FREE: usize = 544;
+const FREE: usize = 608;
 
 // How far from its first word a queue's field stands.
 const BASE: usize = 0;
@@ -55,18 +57,23 @@ const FIRST: usize = 192;
 
 const SECOND: usize = 256;
 
+const NUMBER: usize = 320;
+
 // The arbiter's.
-const WEIGHTED: usize = 545;
+const WEIGHTED: usize = 609;
 
-const WORD: usize = 546;
+const WORD: usize = 610;
 
-const GROUP: usize = 547;
+const GROUP: usize = 611;
 
-const HIGH: usize = 549;
+const HIGH: usize = 613;
 
-const MEDIUM: usize = 552;
+const MEDIUM: usize = 616;
 
-const LOW: usize = 555;
+const LOW: usize = 619;
+
+// The next start number's.
+const NEXT_NUMBER: usize = 622;
 
 // What stands for a remainder without limit.
 const NO_LIMIT: u64 = 4294967296;
@@ -236,6 +243,7 @@ pub fn command_at(s: &[u64; WORDS], t: usize) -> Command
         verdict: half(s[t + COMMAND + VERDICT]),
         first: byte(s[t + COMMAND + FIRST]),
         second: byte(s[t + COMMAND + SECOND]),
+        number: s[t + COMMAND + NUMBER],
     }
 }
 
@@ -249,6 +257,7 @@ pub fn put_command(s: &mut [u64; WORDS], t: usize, k: Command)
     s[t + COMMAND + VERDICT] = k.verdict as u64;
     s[t + COMMAND + FIRST] = k.first as u64;
     s[t + COMMAND + SECOND] = k.second as u64;
+    s[t + COMMAND + NUMBER] = k.number;
 }
 
 // The mask of free tags.
@@ -268,7 +277,7 @@ pub fn put_free(s: &mut [u64; WORDS], mask: u64)
 // ---- the arbiter
 
 fn group_at(s: &[u64; WORDS], p: usize) -> Group
-    requires { ⌜ p + 2 ≤ 558 ⌝ }
+    requires { ⌜ p + 2 ≤ 623 ⌝ }
     ensures { λ r. ⌜ r ≡ groupFrom (from (now (s .entry)) p) 0 ⌝ }
 {
     Group {
@@ -278,7 +287,7 @@ fn group_at(s: &[u64; WORDS], p: usize) -> Group
 }
 
 fn level_at(s: &[u64; WORDS], p: usize) -> Level
-    requires { ⌜ p + 3 ≤ 558 ⌝ }
+    requires { ⌜ p + 3 ≤ 623 ⌝ }
     ensures { λ r. ⌜ r ≡ levelFrom (from (now (s .entry)) p) 0 ⌝ }
 {
     Level {
@@ -335,6 +344,22 @@ pub fn put_arbiter(s: &mut [u64; WORDS], a: Arbiter)
     s[LOW + 2] = low.credit as u64;
 }
 
+// ---- start numbers
+
+// The start number of the next command that is taken.
+pub fn next_number(s: &[u64; WORDS]) -> u64
+    ensures { λ r. ⌜ r ≡ held (now (s .entry)) .nextNumber ⌝ }
+{
+    s[NEXT_NUMBER]
+}
+
+pub fn put_next_number(s: &mut [u64; WORDS], n: u64)
+    requires { ⌜ Sound (now s) ⌝ }
+    ensures { λ _. ⌜ Holds (now (s .exit)) (withNextNumber (held (now (s .entry))) n) ⌝ }
+{
+    s[NEXT_NUMBER] = n;
+}
+
 // ---- a fresh controller
 
 fn refresh(s: &mut [u64; WORDS], weighted: bool, word: u32)
@@ -388,6 +413,8 @@ impl Controller {
     pub const LAST_CLASS: u64 = 3;
 
     pub const LAST_STATUS: u64 = 32767;
+
+    pub const LAST_NUMBER: u64 = 18446744073709551614;
 
     pub const LEAST_SIZE: u64 = ring::slots::LEAST_SIZE;
 

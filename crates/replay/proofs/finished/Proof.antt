@@ -7,15 +7,6 @@ use Rattle.replay.specs.Replay.{resultOf}
 use Rattle.replay.proofs.finished.Statement.{statement}
 use Rattle.replay.proofs.finished.Tie as tie
 
-enum-known-answer : tie.Need-enum-known-answer
-enum-known-answer c = search needs
-
-cast-t5 : tie.Need-cast-t5
-cast-t5 c = search needs
-
-enum-known-answer-2 : tie.Need-enum-known-answer-2
-enum-known-answer-2 c = search needs
-
 returns : tie.Need-returns
 returns c =
     let e = sym (c .before .answer .given .1) in
@@ -28,4 +19,4 @@ returns-2 c =
 
 pub finished-spec : {M : Type 1} → statement M
 finished-spec =
-    tie.close (tie.spec enum-known-answer cast-t5 enum-known-answer-2 returns returns-2)
+    tie.close (tie.spec (λ c. search needs) (λ c. search needs) (λ c. search needs) returns returns-2)

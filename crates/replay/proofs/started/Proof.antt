@@ -7,21 +7,6 @@ use Rattle.replay.specs.Replay.{resultOf}
 use Rattle.replay.proofs.started.Statement.{statement}
 use Rattle.replay.proofs.started.Tie as tie
 
-enum-known-answer : tie.Need-enum-known-answer
-enum-known-answer c = search needs
-
-cast-t13 : tie.Need-cast-t13
-cast-t13 c = search needs
-
-enum-known-answer-2 : tie.Need-enum-known-answer-2
-enum-known-answer-2 c = search needs
-
-cast-t14 : tie.Need-cast-t14
-cast-t14 c = search needs
-
-enum-known-answer-3 : tie.Need-enum-known-answer-3
-enum-known-answer-3 c = search needs
-
 returns : tie.Need-returns
 returns c =
     let e = sym (c .before .answer .given .1) in
@@ -41,11 +26,11 @@ pub started-spec : {M : Type 1} → statement M
 started-spec =
     tie.close
     (tie.spec
-    enum-known-answer
-    cast-t13
-    enum-known-answer-2
-    cast-t14
-    enum-known-answer-3
+    (λ c. search needs)
+    (λ c. search needs)
+    (λ c. search needs)
+    (λ c. search needs)
+    (λ c. search needs)
     returns
     returns-2
     returns-3)

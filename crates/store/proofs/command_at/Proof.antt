@@ -9,12 +9,13 @@ use Rattle.store.proofs.command_at.Tie as tie
 returns : tie.Need-returns
 unfolding commandOf
 returns c =
-    let first = c .before .before in
+    let second = c .before in
+    let first = second .before .before in
     let verdict = first .before .before in
     let cid = verdict .before .before in
     let sq = cid .before .before in
     let a = sq .before .before in
-    rw (sq .byte .ensures, cid .half .ensures, verdict .half2 .ensures, first .byte2 .ensures, c .byte3 .ensures)
+    rw (sq .byte .ensures, cid .half .ensures, verdict .half2 .ensures, first .byte2 .ensures, second .byte3 .ensures)
     (sym (command-held (a .args .s .now) (a .args .t) (a .pre)))
 
 pub command-at-spec : {M : Type 1} → statement M
@@ -46,4 +47,8 @@ command-at-spec =
     (λ c. search needs)
     (λ c. search needs)
     (λ c κs. search needs)
+    (λ c. search needs)
+    (λ c. search needs)
+    (λ c. search needs)
+    (λ c. search needs)
     returns)

@@ -18,7 +18,7 @@ returns c =
 returns-2 : tie.Need-returns-2
 returns-2 c =
     let e = c .before .before .before .before .before .finish .ensures in (
-      ap (λ x. finishNumbers (ofFinished x)) (sym (c .before .number .given .1)) ∙ ap finishNumbers (answered (e .0) (e .1)),
+      ap (λ x. finishNumbers (ofFinished x)) (sym (c .before .refusal .given .1)) ∙ ap finishNumbers (answered (e .0) (e .1)),
       left-held (e .0) (e .1),
       left-memory (e .0) (e .1),
     )

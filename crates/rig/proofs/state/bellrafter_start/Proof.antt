@@ -26,7 +26,7 @@ returns-2 c =
 returns-3 : tie.Need-returns-3
 returns-3 c =
     let e = c .before .before .before .start .ensures in (
-      ap (λ x. startNumbers (ofStarted x)) (sym (c .before .number .given .1)) ∙ ap startNumbers (answered (e .0) (e .1)),
+      ap (λ x. startNumbers (ofStarted x)) (sym (c .before .refusal .given .1)) ∙ ap startNumbers (answered (e .0) (e .1)),
       left-held (e .0)
           (e .1),
     )

@@ -7,12 +7,15 @@ use Rattle.starter.proofs.take.leave.Tie as tie
 
 returns : tie.Need-returns
 returns c =
-    let f = c .before .before in
-    let p = c .put-arbiter .ensures in
+    let a = c .before .before in
+    let f = a .before .before in
+    let p = c .put-next-number .ensures in
     record {
       sound = p .sound;
-      is = left-with (held (f .before .before .args .state .now)) (held (f .put-free .last .0)) _ _ _ (f .put-free .ensures .is) (p .is);
+      is =
+          left-with (held (f .before .before .args .state .now)) (held (f .put-free .last .0)) (held (a .put-arbiter .last .0)) _ _ _ _
+          (f .put-free .ensures .is) (a .put-arbiter .ensures .is) (p .is);
     }
 
 pub leave-spec : {M : Type 1} → statement M
-leave-spec = tie.close (tie.spec (λ c κs. search needs) (λ c κs. search needs) returns)
+leave-spec = tie.close (tie.spec (λ c κs. search needs) (λ c κs. search needs) (λ c κs. search needs) returns)
