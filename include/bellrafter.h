@@ -27,7 +27,8 @@
  * is the caller's fault, and what the call does then is not said; beside the pointers they are the one thing that the
  * library trusts. The words hold no pointer, so a state may be copied, moved and saved: a call on the copy does what it
  * would have done on the original, and a saved state can be gone back to, as long as the memory is put back with it.
- * They need the alignment of uint64_t and no more. Words that another release of the library made are other words.
+ * Each copy counts its start numbers by itself, so that two of them give the same numbers. The words need the alignment
+ * of uint64_t and no more. Words that another release of the library made are other words.
  *
  * Memory. The memory that the rings lie in belongs to the caller, who hands it to each call that looks at it; an
  * address is an offset in it. It may be another one at each call, as long as it holds what the controller and the host
@@ -99,12 +100,12 @@
 extern "C" {
 #endif
 
-#define BELLRAFTER_VERSION_MAJOR 1
-#define BELLRAFTER_VERSION_MINOR 3
-#define BELLRAFTER_VERSION "1.3"
+#define BELLRAFTER_VERSION_MAJOR 2
+#define BELLRAFTER_VERSION_MINOR 0
+#define BELLRAFTER_VERSION "2.0"
 
 /* The limits. */
-#define BELLRAFTER_STATE_WORDS 558      /* words of a controller's state */
+#define BELLRAFTER_STATE_WORDS 623      /* words of a controller's state */
 #define BELLRAFTER_QUEUES 16            /* submission queues, and completion queues: ids 0 to 15, 0 being Admin */
 #define BELLRAFTER_TAGS 64              /* commands that may be outstanding: tags 0 to 63 */
 #define BELLRAFTER_SIZE_LEAST 2         /* entries of a ring */
@@ -118,6 +119,7 @@ extern "C" {
 #define BELLRAFTER_LENGTH_MOST 1048576  /* the longest data of a page walk, in bytes */
 #define BELLRAFTER_PAGES_MOST 257       /* the most pages that such data touch */
 #define BELLRAFTER_NO_LIMIT UINT64_MAX  /* a remainder without limit: struct bellrafter_arbiter */
+#define BELLRAFTER_NUMBER_MOST (UINT64_MAX - 1) /* the largest start number: 18,446,744,073,709,551,614 */
 
 /* The refusal numbers, with the calls that give them. The answer records of replay have those of the calls it makes. */
 enum bellrafter_refusal {
@@ -177,7 +179,10 @@ enum bellrafter_refusal {
     /* The record names no call, or a spare byte of it is not zero: an answer record of replay. */
     BELLRAFTER_RECORD = 30,
     /* The trace ends before the record does: the last answer record of replay. */
-    BELLRAFTER_RECORD_SHORT = 31
+    BELLRAFTER_RECORD_SHORT = 31,
+    /* A start number above 18,446,744,073,709,551,614 would be needed, after a command for each number up to there:
+       start. */
+    BELLRAFTER_NO_NUMBER = 32
 };
 
 /* The calls that a trace's record names: replay. */
@@ -260,6 +265,8 @@ static inline const char *bellrafter_refusal_text(uint64_t refusal)
         return "the record names no call, or a spare byte of it is not zero";
     case BELLRAFTER_RECORD_SHORT:
         return "the trace ends before its last record does";
+    case BELLRAFTER_NO_NUMBER:
+        return "too few start numbers are left";
     default:
         return "no refusal number";
     }
@@ -292,6 +299,11 @@ static inline const char *bellrafter_status_text(uint64_t status)
  * and is empty where head and tail are equal. The host writes submission entries and moves an SQ's tail; a start takes
  * them and moves the SQ's head; a finish posts a completion and moves the CQ's tail; the host reads it and moves the
  * CQ's head.
+ *
+ * Each command that a controller takes gets a start number: 0 for the first, and one more for each further one,
+ * whichever queue it comes from. The two commands of a fused pair get two in order, the first half the lower. A start
+ * answers the number, and the finish of that command answers it again: an inspector matches starts to completions by a
+ * number that never repeats, where tags and CIDs are used again. It does not appear in the ring.
  */
 
 /* What a start took. */
@@ -303,12 +315,14 @@ struct bellrafter_start {
     uint64_t second;  /* the tag of the second; 0 if one was taken */
     uint64_t slot;    /* the slot of the first in the SQ; the second's is the next one, slot 0 after the last */
     uint64_t verdict; /* 0, or the status that will be posted whatever the caller of finish gives */
+    uint64_t number;  /* the start number of the first; the second's is one more */
 };
 
-/* Where a finish posted. */
+/* Where a finish posted, and which command. */
 struct bellrafter_finish {
     uint64_t refusal;
-    uint64_t slot; /* in the CQ */
+    uint64_t slot;   /* in the CQ */
+    uint64_t number; /* the start number of the command */
 };
 
 /* What a replay wrote. */
@@ -342,6 +356,7 @@ struct bellrafter_command {
     uint64_t sq;
     uint64_t cid;
     uint64_t verdict; /* that of the start; for a second half 09h instead of 0, once its first half has failed */
+    uint64_t number;  /* its start number; no two outstanding commands have the same */
 };
 
 /*
@@ -368,7 +383,7 @@ struct bellrafter_arbiter {
 
 /*
  * Makes a controller without queues, with an arbitration mechanism and the Arbitration feature word, and writes all
- * of `state`, whatever is in it.
+ * of `state`, whatever is in it. The first command that it takes will have start number 0.
  *
  * `mechanism` is 0, round robin, or 1, weighted round robin with urgent priority class. Of `word`, bits 2:0 give the
  * burst as a power of two, 7 meaning no limit; bits 15:8, 23:16 and 31:24 are the low, medium and high weights less
@@ -429,6 +444,9 @@ uint64_t bellrafter_head_write(uint64_t *state, uint64_t id, uint64_t value);
  * submission queue among the candidates, which are those that are neither empty nor marked; its head moves past what is
  * taken. A command gets the lowest free tag, a pair the two lowest, its first half the lower.
  *
+ * A command gets the next start number, a pair the next two, its first half the lower. A start that is refused uses
+ * none.
+ *
  * The verdict is the first of these that applies. For a single command:
  *
  *     FUSE not 0 on SQ 0, or FUSE 3                                              02h
@@ -442,7 +460,8 @@ uint64_t bellrafter_head_write(uint64_t *state, uint64_t id, uint64_t value);
  *     a CID is in use, or both are equal                                         03h
  *
  * In order: BELLRAFTER_RING_MEMORY for any ring; BELLRAFTER_NO_CANDIDATE; BELLRAFTER_NO_TAG if the queue chosen needs
- * more tags than are free (no other queue is tried).
+ * more tags than are free; BELLRAFTER_NO_NUMBER if it needs a start number above BELLRAFTER_NUMBER_MOST, of a pair the
+ * second one too. With the last two no other queue is tried.
  */
 struct bellrafter_start bellrafter_start(uint64_t *state, const uint8_t *memory, size_t memory_bytes);
 
@@ -452,6 +471,7 @@ struct bellrafter_start bellrafter_start(uint64_t *state, const uint8_t *memory,
  *
  * The status posted is the command's verdict if that is not 0; else 09h for a second half whose first half posted a
  * status other than 0; else `status`. `result` is posted in every case. SQHD is the head of the submission queue now.
+ * The start number is answered and not posted.
  *
  * In order: BELLRAFTER_RING_MEMORY for any ring; BELLRAFTER_NO_COMMAND; BELLRAFTER_STATUS, also where a verdict
  * overrules the status; BELLRAFTER_FIRST_HALF; BELLRAFTER_CQ_FULL.
@@ -486,7 +506,8 @@ struct bellrafter_finish bellrafter_finish(uint64_t *state, uint8_t *memory, siz
  * does, whatever is in it; BELLRAFTER_RECORD if byte 0 is none of the four or a spare byte is not 0; that of the call.
  * With the first two no call is made, and the record changes nothing. After any other refusal than the first the
  * replay goes on with the next record. A trace that writes a doorbell's value again, with no other between, has that
- * write refused, and the queue marked if it is a tail's.
+ * write refused, and the queue marked if it is a tail's. The commands that a replay starts get start numbers as all
+ * others do; an answer record does not tell them, bellrafter_look_command does.
  *
  * An example, with four bytes of each record, behind which twelve zeros stand. SQ 1 and CQ 1 are new, of 4 entries, and
  * an ordinary command lies in slot 0 of SQ 1:

@@ -237,6 +237,7 @@ static bool judge(struct cartridge *c)
         if (left.refusal == BELLRAFTER_DONE) {
             printf("first difference: after %u equal completions: command %04xh of SQ %u was never finished\n", matched,
                    (unsigned)left.cid, (unsigned)left.sq);
+            printf("  model      start number %llu\n", (unsigned long long)left.number);
             return false;
         }
     }

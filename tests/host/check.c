@@ -32,12 +32,12 @@ struct answer of_pages(struct bellrafter_pages pages)
 
 struct answer of_start(struct bellrafter_start s)
 {
-    return (struct answer){7, {s.refusal, s.sq, s.count, s.first, s.second, s.slot, s.verdict}};
+    return (struct answer){8, {s.refusal, s.sq, s.count, s.first, s.second, s.slot, s.verdict, s.number}};
 }
 
 struct answer of_finish(struct bellrafter_finish f)
 {
-    return (struct answer){2, {f.refusal, f.slot}};
+    return (struct answer){3, {f.refusal, f.slot, f.number}};
 }
 
 struct answer of_replay(struct bellrafter_replay r)
@@ -57,7 +57,7 @@ struct answer of_cq(struct bellrafter_cq q)
 
 struct answer of_command(struct bellrafter_command c)
 {
-    return (struct answer){4, {c.refusal, c.sq, c.cid, c.verdict}};
+    return (struct answer){5, {c.refusal, c.sq, c.cid, c.verdict, c.number}};
 }
 
 struct answer of_arbiter(struct bellrafter_arbiter a)

@@ -54,7 +54,7 @@ void expect(const char *what, struct answer wanted, struct answer came);
 void require(bool met, const char *what);
 
 /* A call with the refusal numbers that it can give, each below REFUSALS. */
-enum { REFUSALS = 32 };
+enum { REFUSALS = 33 };
 struct refusals {
     const char *name;
     size_t count;

@@ -307,14 +307,25 @@ static uint64_t free_tags(const struct ref_controller *c)
     return count;
 }
 
-/* A command takes the lowest free tag. */
-static uint64_t take_tag(struct ref_controller *c, uint64_t id, uint64_t cid, uint64_t verdict, uint64_t first_number)
+/*
+ * "A start that would need a number above 18,446,744,073,709,551,614 is refused with 32": of the `count` numbers from
+ * the next one on the last would be above it. The next one itself may be one above, so nothing is added to it.
+ */
+static bool needs_number_above(const struct ref_controller *c, uint64_t count)
+{
+    return c->next > UINT64_C(18446744073709551614) - (count - 1);
+}
+
+/* A command takes the lowest free tag, and the next start number: "one more for each further command". */
+static uint64_t take_tag(struct ref_controller *c, uint64_t id, uint64_t cid, uint64_t verdict)
 {
     uint64_t tag = 0;
 
     while (c->commands[tag].outstanding)
         tag++;
-    c->commands[tag] = (struct ref_command){true, id, cid, verdict, ++c->last_number, first_number};
+    c->commands[tag] = (struct ref_command){
+        .outstanding = true, .sq = id, .cid = cid, .verdict = verdict, .number = c->next};
+    c->next++;
     return tag;
 }
 
@@ -334,17 +345,23 @@ struct bellrafter_start ref_start(struct ref_controller *c, const uint8_t *memor
         *c = before; /* the turn was not taken */
         return (struct bellrafter_start){.refusal = BELLRAFTER_NO_TAG};
     }
+    if (needs_number_above(c, count)) {
+        *c = before;
+        return (struct bellrafter_start){.refusal = BELLRAFTER_NO_NUMBER};
+    }
 
-    struct bellrafter_start taken = {.sq = id, .count = count, .slot = sq->head};
+    struct bellrafter_start taken = {.sq = id, .count = count, .slot = sq->head, .number = c->next};
     struct bellrafter_submission first = entry_at(sq, sq->head, memory);
     if (count == 1) {
         taken.verdict = single_verdict(c, id, first);
-        taken.first = take_tag(c, id, first.cid, taken.verdict, 0);
+        taken.first = take_tag(c, id, first.cid, taken.verdict);
     } else {
         struct bellrafter_submission second = entry_at(sq, (sq->head + 1) % sq->size, memory);
         taken.verdict = pair_verdict(c, id, first, second);
-        taken.first = take_tag(c, id, first.cid, taken.verdict, 0);
-        taken.second = take_tag(c, id, second.cid, taken.verdict, c->commands[taken.first].number);
+        taken.first = take_tag(c, id, first.cid, taken.verdict);
+        taken.second = take_tag(c, id, second.cid, taken.verdict);
+        c->commands[taken.second].second_half = true;
+        c->commands[taken.second].first_number = c->commands[taken.first].number;
     }
     sq->head = (sq->head + count) % sq->size;
     return taken;
@@ -357,7 +374,7 @@ static bool first_half_outstanding(const struct ref_controller *c, const struct 
 {
     for (int tag = 0; tag < 64; tag++) {
         const struct ref_command *other = &c->commands[tag];
-        if (other->outstanding && command->first_number != 0 && other->number == command->first_number)
+        if (other->outstanding && command->second_half && other->number == command->first_number)
             return true;
     }
     return false;
@@ -368,7 +385,7 @@ static void tell_second_half(struct ref_controller *c, const struct ref_command 
 {
     for (int tag = 0; tag < 64; tag++) {
         struct ref_command *other = &c->commands[tag];
-        if (other->outstanding && other->first_number == first->number && other->verdict == 0)
+        if (other->outstanding && other->second_half && other->first_number == first->number && other->verdict == 0)
             other->verdict = BELLRAFTER_STATUS_FAILED_FUSED;
     }
 }
@@ -377,18 +394,18 @@ struct bellrafter_finish ref_finish(struct ref_controller *c, uint8_t *memory, s
                                     uint64_t status, uint32_t result)
 {
     if (some_ring_outside(c, memory_bytes))
-        return (struct bellrafter_finish){BELLRAFTER_RING_MEMORY, 0};
+        return (struct bellrafter_finish){.refusal = BELLRAFTER_RING_MEMORY};
     if (tag > 63 || !c->commands[tag].outstanding)
-        return (struct bellrafter_finish){BELLRAFTER_NO_COMMAND, 0};
+        return (struct bellrafter_finish){.refusal = BELLRAFTER_NO_COMMAND};
     if (status > 32767)
-        return (struct bellrafter_finish){BELLRAFTER_STATUS, 0};
+        return (struct bellrafter_finish){.refusal = BELLRAFTER_STATUS};
     struct ref_command *command = &c->commands[tag];
     if (first_half_outstanding(c, command))
-        return (struct bellrafter_finish){BELLRAFTER_FIRST_HALF, 0};
+        return (struct bellrafter_finish){.refusal = BELLRAFTER_FIRST_HALF};
     const struct ref_sq *sq = &c->sqs[command->sq];
     struct ref_cq *cq = &c->cqs[sq->cq];
     if ((cq->tail + 1) % cq->size == cq->head)
-        return (struct bellrafter_finish){BELLRAFTER_CQ_FULL, 0};
+        return (struct bellrafter_finish){.refusal = BELLRAFTER_CQ_FULL};
 
     uint64_t posted = command->verdict != 0 ? command->verdict : status;
     uint64_t slot = cq->tail;
@@ -400,7 +417,7 @@ struct bellrafter_finish ref_finish(struct ref_controller *c, uint8_t *memory, s
     command->outstanding = false;
     if (posted != 0)
         tell_second_half(c, command);
-    return (struct bellrafter_finish){BELLRAFTER_DONE, slot};
+    return (struct bellrafter_finish){BELLRAFTER_DONE, slot, command->number};
 }
 
 /* Replaying. */
@@ -510,7 +527,7 @@ struct bellrafter_command ref_look_command(const struct ref_controller *c, uint6
     if (tag > 63 || !c->commands[tag].outstanding)
         return (struct bellrafter_command){.refusal = BELLRAFTER_NO_COMMAND};
     const struct ref_command *command = &c->commands[tag];
-    return (struct bellrafter_command){BELLRAFTER_DONE, command->sq, command->cid, command->verdict};
+    return (struct bellrafter_command){BELLRAFTER_DONE, command->sq, command->cid, command->verdict, command->number};
 }
 
 struct bellrafter_arbiter ref_look_arbiter(const struct ref_controller *c)

@@ -20,13 +20,13 @@ struct ref_cq {
 };
 
 /*
- * A command by its tag. Commands are told apart by numbers that are never used again, so that a half knows its other
- * half also where the tag of that has long been given to another command; 0 is no command.
+ * A command by its tag. Start numbers are never used again, so that a half knows its other half by that one's number,
+ * also where the tag has long been given to another command.
  */
 struct ref_command {
-    bool outstanding;
+    bool outstanding, second_half;
     uint64_t sq, cid, verdict;
-    uint64_t number;       /* this command's own */
+    uint64_t number;       /* the start number, this command's own */
     uint64_t first_number; /* of a second half: its first half's */
 };
 
@@ -45,7 +45,7 @@ struct ref_controller {
     struct ref_sq sqs[16];
     struct ref_cq cqs[16];
     struct ref_command commands[64];
-    uint64_t last_number;
+    uint64_t next; /* the start number that the next command gets */
 };
 
 uint64_t ref_controller_new(struct ref_controller *c, uint64_t mechanism, uint32_t word);

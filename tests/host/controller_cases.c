@@ -1,7 +1,7 @@
 /*
  * Fixed cases of the controller: the paper's traced examples, every refusal, refusals that apply together, verdicts,
- * pairs. Each call is made on the library and on the plain controller (twin.h), and the answer is also held to the one
- * that is written here.
+ * pairs, start numbers. Each call is made on the library and on the plain controller (twin.h), and the answer is also
+ * held to the one that is written here.
  */
 #include "reference.h"
 #include "twin.h"
@@ -18,10 +18,12 @@ FIELD(bellrafter_start, first, 24, 8);
 FIELD(bellrafter_start, second, 32, 8);
 FIELD(bellrafter_start, slot, 40, 8);
 FIELD(bellrafter_start, verdict, 48, 8);
-HOLDS(start_bytes, sizeof(struct bellrafter_start) == 56);
+FIELD(bellrafter_start, number, 56, 8);
+HOLDS(start_bytes, sizeof(struct bellrafter_start) == 64);
 FIELD(bellrafter_finish, refusal, 0, 8);
 FIELD(bellrafter_finish, slot, 8, 8);
-HOLDS(finish_bytes, sizeof(struct bellrafter_finish) == 16);
+FIELD(bellrafter_finish, number, 16, 8);
+HOLDS(finish_bytes, sizeof(struct bellrafter_finish) == 24);
 FIELD(bellrafter_replay, refusal, 0, 8);
 FIELD(bellrafter_replay, records, 8, 8);
 HOLDS(replay_bytes, sizeof(struct bellrafter_replay) == 16);
@@ -45,7 +47,8 @@ FIELD(bellrafter_command, refusal, 0, 8);
 FIELD(bellrafter_command, sq, 8, 8);
 FIELD(bellrafter_command, cid, 16, 8);
 FIELD(bellrafter_command, verdict, 24, 8);
-HOLDS(command_bytes, sizeof(struct bellrafter_command) == 32);
+FIELD(bellrafter_command, number, 32, 8);
+HOLDS(command_bytes, sizeof(struct bellrafter_command) == 40);
 FIELD(bellrafter_arbiter, mechanism, 0, 8);
 FIELD(bellrafter_arbiter, word, 8, 8);
 FIELD(bellrafter_arbiter, holder, 16, 8);
@@ -77,6 +80,9 @@ FIELD(bellrafter_submission, cdw12_upper, 76, 2);
 FIELD(bellrafter_submission, opc, 78, 2);
 HOLDS(submission_bytes, sizeof(struct bellrafter_submission) == 80);
 
+HOLDS(number_most, BELLRAFTER_NUMBER_MOST == UINT64_C(18446744073709551614));
+HOLDS(number_bytes, sizeof(BELLRAFTER_NUMBER_MOST) == 8);
+
 #define TOP UINT64_MAX /* 2^64 - 1 */
 
 enum { M = MEMORY };
@@ -98,9 +104,15 @@ static void refused_start(const char *what, size_t lent, uint64_t refusal)
     want_start(what, (struct bellrafter_start){.refusal = refusal}, lent);
 }
 
-static void want_finish(const char *what, size_t lent, uint64_t tag, uint64_t status, uint64_t refusal, uint64_t slot)
+static void want_finish(const char *what, size_t lent, uint64_t tag, uint64_t status, uint64_t slot, uint64_t number)
 {
-    expect(what, of_finish((struct bellrafter_finish){refusal, slot}),
+    expect(what, of_finish((struct bellrafter_finish){0, slot, number}),
+           of_finish(twin_finish(lent, tag, status, 0xDDCCBBAA)));
+}
+
+static void refused_finish(const char *what, size_t lent, uint64_t tag, uint64_t status, uint64_t refusal)
+{
+    expect(what, of_finish((struct bellrafter_finish){.refusal = refusal}),
            of_finish(twin_finish(lent, tag, status, 0xDDCCBBAA)));
 }
 
@@ -192,7 +204,7 @@ static void new_cases(void)
         want(cases[i].what, cases[i].refusal, twin_new(cases[i].mechanism, cases[i].word));
         look_at_all();
         refused_start("start without a queue", 0, BELLRAFTER_NO_CANDIDATE);
-        want_finish("finish without a queue", 0, 0, 0, BELLRAFTER_NO_COMMAND, 0);
+        refused_finish("finish without a queue", 0, 0, 0, BELLRAFTER_NO_COMMAND);
     }
 }
 
@@ -344,7 +356,7 @@ static void doorbells(void)
         submit_plain(1, cid);
     want("marking", BELLRAFTER_DOORBELL, twin_tail(3, 4));
     want_finish("posting", M, 0, 0, 0, 0);
-    want_finish("posting", M, 1, 0, 0, 1);
+    want_finish("posting", M, 1, 0, 1, 1);
     save_twin(&here);
 }
 
@@ -428,8 +440,8 @@ static void held_cases(void)
     make_sq(2, 4, 0);
     for (uint64_t cid = 0; cid < 3; cid++)
         submit_plain(1, cid);
-    want_start("start", (struct bellrafter_start){0, 1, 1, 0, 0, 0, 0}, M);
-    want_start("start", (struct bellrafter_start){0, 1, 1, 1, 0, 1, 0}, M);
+    want_start("start", (struct bellrafter_start){0, 1, 1, 0, 0, 0, 0, 0}, M);
+    want_start("start", (struct bellrafter_start){0, 1, 1, 1, 0, 1, 0, 1}, M);
     want_finish("posting", M, 0, 0, 0, 0);
 
     want("head 0, never written", BELLRAFTER_DOORBELL, twin_head(1, 0));
@@ -438,7 +450,7 @@ static void held_cases(void)
     want("head 1, after refused writes", 0, twin_head(1, 1));
     want("head 1 again", BELLRAFTER_DOORBELL, twin_head(1, 1));
     want("head 1 a third time", BELLRAFTER_DOORBELL, twin_head(1, 1));
-    want_finish("posting", M, 1, 0, 0, 1);
+    want_finish("posting", M, 1, 0, 1, 1);
     want("head 1 again, with one waiting", BELLRAFTER_DOORBELL, twin_head(1, 1));
     want("head 2, refused before", 0, twin_head(1, 2));
 
@@ -452,9 +464,9 @@ static void held_cases(void)
     want("tail 3 again, one waiting", BELLRAFTER_DOORBELL, twin_tail(1, 3));
     refused_start("marked by the value held, starts nothing", M, BELLRAFTER_NO_CANDIDATE);
     go_back(&here);
-    want_start("start", (struct bellrafter_start){0, 1, 1, 0, 0, 2, 0}, M);
+    want_start("start", (struct bellrafter_start){0, 1, 1, 0, 0, 2, 0, 2}, M);
     want("tail 3 again, all started", BELLRAFTER_DOORBELL, twin_tail(1, 3));
-    want_finish("a marked SQ's command", M, 0, 0, 0, 2);
+    want_finish("a marked SQ's command", M, 0, 0, 2, 2);
     look_at_all();
 }
 
@@ -471,7 +483,7 @@ static void served(const char *what, uint64_t mechanism, uint32_t word, const ch
         submit_plain((uint64_t)(order[cid] - '0'), cid);
     for (uint64_t tag = 0; tag < strlen(order); tag++) {
         uint64_t id = (uint64_t)(order[tag] - '0');
-        want_start(what, (struct bellrafter_start){0, id, 1, tag, 0, plain.sqs[id].head, 0}, M);
+        want_start(what, (struct bellrafter_start){0, id, 1, tag, 0, plain.sqs[id].head, 0, tag}, M);
     }
     refused_start(what, M, BELLRAFTER_NO_CANDIDATE);
     look_at_all();
@@ -507,21 +519,21 @@ static void start_cases(uint64_t mechanism)
         submit_plain(1, cid);
     refused_start("start, one byte short", cq_base(1) + 1023, BELLRAFTER_RING_MEMORY);
     for (uint64_t tag = 0; tag < 63; tag++)
-        want_start("start 63", (struct bellrafter_start){0, 1, 1, tag, 0, tag, 0}, cq_base(1) + 1024);
+        want_start("start 63", (struct bellrafter_start){0, 1, 1, tag, 0, tag, 0, tag}, cq_base(1) + 1024);
     submit_pair(1, 100, 101);
     submit_plain(2, 5);
     save_twin(&here);
     refused_start("start, one tag for a pair, no other SQ tried", M, BELLRAFTER_NO_TAG);
     refused_start("start, 13 changes no turn", M, BELLRAFTER_NO_TAG);
     refused_start("start, 5 before 13", cq_base(1) + 1023, BELLRAFTER_RING_MEMORY);
-    want_finish("a tag is freed", M, 17, 0, 0, 0);
+    want_finish("a tag is freed", M, 17, 0, 0, 17);
     want_start("start, a pair over the wrap gets 17 and 63",
-               (struct bellrafter_start){0, 1, 2, 17, 63, 63, 0}, M);
+               (struct bellrafter_start){0, 1, 2, 17, 63, 63, 0, 63}, M);
     refused_start("start, no tag", M, BELLRAFTER_NO_TAG);
     refused_start("start, 5 before 13, no memory", 0, BELLRAFTER_RING_MEMORY);
-    want_finish("second half first", M, 63, 0, BELLRAFTER_FIRST_HALF, 0);
-    want_finish("a tag is freed", M, 62, 0, 0, 1);
-    want_start("start with the last tag", (struct bellrafter_start){0, 2, 1, 62, 0, 0, 0}, M);
+    refused_finish("second half first", M, 63, 0, BELLRAFTER_FIRST_HALF);
+    want_finish("a tag is freed", M, 62, 0, 1, 62);
+    want_start("start with the last tag", (struct bellrafter_start){0, 2, 1, 62, 0, 0, 0, 65}, M);
     look_at_all();
 
     go_back(&here); /* a pair needs two tags whatever its verdict */
@@ -532,7 +544,7 @@ static void start_cases(uint64_t mechanism)
 static void finish_cases(void)
 {
     fresh(0, 7, 2);
-    want_finish("finish, nothing started", M, 0, 0, BELLRAFTER_NO_COMMAND, 0);
+    refused_finish("finish, nothing started", M, 0, 0, BELLRAFTER_NO_COMMAND);
     make_sq(1, 8, 0);
     submit_pair(1, 1, 2);
     submit_plain(1, 3);
@@ -540,33 +552,33 @@ static void finish_cases(void)
     for (int i = 0; i < 3; i++)
         twin_start(M);
     save_twin(&here);
-    want_finish("finish tag 4", M, 4, 0, BELLRAFTER_NO_COMMAND, 0);
-    want_finish("finish tag 63", M, 63, 0, BELLRAFTER_NO_COMMAND, 0);
-    want_finish("finish tag 64", M, 64, 0, BELLRAFTER_NO_COMMAND, 0);
-    want_finish("finish tag 256", M, 256, 0, BELLRAFTER_NO_COMMAND, 0);
-    want_finish("finish tag 2^32", M, (uint64_t)1 << 32, 0, BELLRAFTER_NO_COMMAND, 0);
-    want_finish("finish tag 2^64 - 1", M, TOP, 0, BELLRAFTER_NO_COMMAND, 0);
-    want_finish("finish status 32,768", M, 2, 32768, BELLRAFTER_STATUS, 0);
-    want_finish("finish status 65,536", M, 2, 65536, BELLRAFTER_STATUS, 0);
-    want_finish("finish status 2^64 - 1", M, 2, TOP, BELLRAFTER_STATUS, 0);
-    want_finish("finish a second half", M, 1, 0, BELLRAFTER_FIRST_HALF, 0);
-    want_finish("finish without memory", 0, 2, 0, BELLRAFTER_RING_MEMORY, 0);
-    want_finish("finish, one byte short", cq_base(1) + 31, 2, 0, BELLRAFTER_RING_MEMORY, 0);
-    want_finish("finish, memory ends with the last ring", cq_base(1) + 32, 2, 32767, 0, 0);
+    refused_finish("finish tag 4", M, 4, 0, BELLRAFTER_NO_COMMAND);
+    refused_finish("finish tag 63", M, 63, 0, BELLRAFTER_NO_COMMAND);
+    refused_finish("finish tag 64", M, 64, 0, BELLRAFTER_NO_COMMAND);
+    refused_finish("finish tag 256", M, 256, 0, BELLRAFTER_NO_COMMAND);
+    refused_finish("finish tag 2^32", M, (uint64_t)1 << 32, 0, BELLRAFTER_NO_COMMAND);
+    refused_finish("finish tag 2^64 - 1", M, TOP, 0, BELLRAFTER_NO_COMMAND);
+    refused_finish("finish status 32,768", M, 2, 32768, BELLRAFTER_STATUS);
+    refused_finish("finish status 65,536", M, 2, 65536, BELLRAFTER_STATUS);
+    refused_finish("finish status 2^64 - 1", M, 2, TOP, BELLRAFTER_STATUS);
+    refused_finish("finish a second half", M, 1, 0, BELLRAFTER_FIRST_HALF);
+    refused_finish("finish without memory", 0, 2, 0, BELLRAFTER_RING_MEMORY);
+    refused_finish("finish, one byte short", cq_base(1) + 31, 2, 0, BELLRAFTER_RING_MEMORY);
+    want_finish("finish, memory ends with the last ring", cq_base(1) + 32, 2, 32767, 0, 2);
     want_posted("posted", 1, 0, (struct bellrafter_completion){0, 0xDDCCBBAA, 4, 1, 3, 32767, 1});
-    want_finish("finish, CQ full", M, 3, 0, BELLRAFTER_CQ_FULL, 0);
-    want_finish("finish a tag that is free again", M, 2, 0, BELLRAFTER_NO_COMMAND, 0);
-    want_finish("finish, 5 before 14", cq_base(1) + 31, 64, 0, BELLRAFTER_RING_MEMORY, 0);
-    want_finish("finish, 5 before all", 0, 64, TOP, BELLRAFTER_RING_MEMORY, 0);
-    want_finish("finish, 14 before 15", M, 64, 32768, BELLRAFTER_NO_COMMAND, 0);
-    want_finish("finish, 15 before 16", M, 1, 32768, BELLRAFTER_STATUS, 0);
-    want_finish("finish, 16 before 17", M, 1, 0, BELLRAFTER_FIRST_HALF, 0);
-    want_finish("finish, 15 before 17", M, 3, 32768, BELLRAFTER_STATUS, 0);
+    refused_finish("finish, CQ full", M, 3, 0, BELLRAFTER_CQ_FULL);
+    refused_finish("finish a tag that is free again", M, 2, 0, BELLRAFTER_NO_COMMAND);
+    refused_finish("finish, 5 before 14", cq_base(1) + 31, 64, 0, BELLRAFTER_RING_MEMORY);
+    refused_finish("finish, 5 before all", 0, 64, TOP, BELLRAFTER_RING_MEMORY);
+    refused_finish("finish, 14 before 15", M, 64, 32768, BELLRAFTER_NO_COMMAND);
+    refused_finish("finish, 15 before 16", M, 1, 32768, BELLRAFTER_STATUS);
+    refused_finish("finish, 16 before 17", M, 1, 0, BELLRAFTER_FIRST_HALF);
+    refused_finish("finish, 15 before 17", M, 3, 32768, BELLRAFTER_STATUS);
     look_at_all();
 
     want("marking", BELLRAFTER_DOORBELL, twin_tail(1, 8));
     want("head", 0, twin_head(1, 1));
-    want_finish("a marked SQ's command", M, 3, 5, 0, 1);
+    want_finish("a marked SQ's command", M, 3, 5, 1, 3);
     want_posted("posted", 1, 1, (struct bellrafter_completion){0, 0xDDCCBBAA, 4, 1, 4, 5, 1});
 }
 
@@ -581,19 +593,19 @@ static void small_cq(void)
         twin_start(M);
     want_finish("CQ size 2, posting", M, 0, 0, 0, 0);
     want_posted("CQ size 2, tag 1", 1, 0, (struct bellrafter_completion){0, 0xDDCCBBAA, 7, 1, 0, 0, 1});
-    want_finish("CQ size 2, then 17", M, 1, 0, BELLRAFTER_CQ_FULL, 0);
+    refused_finish("CQ size 2, then 17", M, 1, 0, BELLRAFTER_CQ_FULL);
     want("CQ size 2, head write 1", 0, twin_head(1, 1));
-    want_finish("CQ size 2, slot 1", M, 1, 0, 0, 1);
+    want_finish("CQ size 2, slot 1", M, 1, 0, 1, 1);
     want_posted("CQ size 2, slot 1 with tag 1", 1, 1, (struct bellrafter_completion){0, 0xDDCCBBAA, 7, 1, 1, 0, 1});
-    want_finish("CQ size 2, 17 again", M, 2, 0, BELLRAFTER_CQ_FULL, 0);
+    refused_finish("CQ size 2, 17 again", M, 2, 0, BELLRAFTER_CQ_FULL);
     want("CQ size 2, head write 0", 0, twin_head(1, 0));
-    want_finish("CQ size 2, slot 0", M, 2, 0, 0, 0);
+    want_finish("CQ size 2, slot 0", M, 2, 0, 0, 2);
     want_posted("CQ size 2, slot 0 with tag 0", 1, 0, (struct bellrafter_completion){0, 0xDDCCBBAA, 7, 1, 2, 0, 0});
     want("CQ size 2, head write 1", 0, twin_head(1, 1));
-    want_finish("CQ size 2, slot 1", M, 3, 0, 0, 1);
+    want_finish("CQ size 2, slot 1", M, 3, 0, 1, 3);
     want_posted("CQ size 2, slot 1 with tag 0", 1, 1, (struct bellrafter_completion){0, 0xDDCCBBAA, 7, 1, 3, 0, 0});
     want("CQ size 2, head write 0", 0, twin_head(1, 0));
-    want_finish("CQ size 2, slot 0", M, 4, 0, 0, 0);
+    want_finish("CQ size 2, slot 0", M, 4, 0, 0, 4);
     want_posted("CQ size 2, third pass, tag 1", 1, 0, (struct bellrafter_completion){0, 0xDDCCBBAA, 7, 1, 4, 0, 1});
     look_at_all();
 }
@@ -697,26 +709,27 @@ static void verdict_case(size_t i, uint64_t slot)
 {
     uint64_t id = verdict_cases[i].id, count = verdict_cases[i].count, verdict = verdict_cases[i].verdict;
     uint64_t next = (slot + 1) % 8, first = lowest_free(0), second = lowest_free(first + 1);
+    uint64_t number = 2 * slot + 1; /* so many were started before */
     char what[120];
 
     snprintf(what, sizeof what, "verdict at slot %" PRIu64 ": %s", slot, verdict_cases[i].what);
     twin_submit(sq_base(id) + 64 * slot, verdict_cases[i].first);
     twin_submit(sq_base(id) + 64 * next, verdict_cases[i].second);
     want(what, 0, twin_tail(id, verdict_cases[i].behind ? (slot + 2) % 8 : next));
-    want_start(what, (struct bellrafter_start){0, id, count, first, count == 2 ? second : 0, slot, verdict}, M);
+    want_start(what, (struct bellrafter_start){0, id, count, first, count == 2 ? second : 0, slot, verdict, number}, M);
     look_at_all();
 
     uint64_t cq = id != 0, at = plain.cqs[cq].tail;
     uint16_t head = (uint16_t)((slot + count) % 8);
     uint16_t status = (uint16_t)(verdict != 0 ? verdict : 0x1234);
     uint16_t failed_fused = (uint16_t)(verdict != 0 ? verdict : 9);
-    want_finish(what, M, first, 0x1234, 0, at);
+    want_finish(what, M, first, 0x1234, at, number);
     want_posted(what, cq, at,
                 (struct bellrafter_completion){0, 0xDDCCBBAA, head, (uint16_t)id,
                                                (uint16_t)verdict_cases[i].first.cid, status, 1});
     if (count == 2) {
         look_at_all();
-        want_finish(what, M, second, 0, 0, at + 1);
+        want_finish(what, M, second, 0, at + 1, number + 1);
         want_posted(what, cq, at + 1,
                     (struct bellrafter_completion){0, 0xDDCCBBAA, head, (uint16_t)id,
                                                    (uint16_t)verdict_cases[i].second.cid, failed_fused, 1});
@@ -745,48 +758,48 @@ static void pair_cases(void)
     submit(1, (struct submitted){5, 1, 0, 10, 4, 5, 6, 0});
     submit(1, (struct submitted){FIRST});
     submit(1, (struct submitted){SECOND});
-    want_start("FUSE 1, 1, 2: the first alone", (struct bellrafter_start){0, 1, 1, 0, 0, 0, 0x0A}, M);
-    want_start("FUSE 1, 1, 2: then a pair", (struct bellrafter_start){0, 1, 2, 1, 2, 1, 0}, M);
+    want_start("FUSE 1, 1, 2: the first alone", (struct bellrafter_start){0, 1, 1, 0, 0, 0, 0x0A, 0}, M);
+    want_start("FUSE 1, 1, 2: then a pair", (struct bellrafter_start){0, 1, 2, 1, 2, 1, 0, 1}, M);
     want_finish("the single one", M, 0, 0, 0, 0);
 
     /* 16 is about the first half and not about its tag. */
     submit_plain(1, 20);
     submit_pair(1, 21, 22);
-    want_finish("second half before the first", M, 2, 0, BELLRAFTER_FIRST_HALF, 0);
-    want_finish("first half", M, 1, 0, 0, 1);
-    want_start("tag 0 again", (struct bellrafter_start){0, 1, 1, 0, 0, 3, 0}, M);
-    want_start("the first half's tag again, for a pair", (struct bellrafter_start){0, 1, 2, 1, 3, 4, 0}, M);
-    want_finish("second half of the newer pair", M, 3, 0, BELLRAFTER_FIRST_HALF, 0);
-    want_finish("second half whose first half's tag is in use", M, 2, 6, 0, 2);
+    refused_finish("second half before the first", M, 2, 0, BELLRAFTER_FIRST_HALF);
+    want_finish("first half", M, 1, 0, 1, 1);
+    want_start("tag 0 again", (struct bellrafter_start){0, 1, 1, 0, 0, 3, 0, 3}, M);
+    want_start("the first half's tag again, for a pair", (struct bellrafter_start){0, 1, 2, 1, 3, 4, 0, 4}, M);
+    refused_finish("second half of the newer pair", M, 3, 0, BELLRAFTER_FIRST_HALF);
+    want_finish("second half whose first half's tag is in use", M, 2, 6, 2, 2);
     want_posted("its own status", 1, 2, (struct bellrafter_completion){0, 0xDDCCBBAA, 6, 1, 2, 6, 1});
-    want_finish("first half of the newer pair fails", M, 1, 0x7FFF, 0, 3);
-    expect("second half is told", of_command((struct bellrafter_command){0, 1, 22, 9}),
+    want_finish("first half of the newer pair fails", M, 1, 0x7FFF, 3, 4);
+    expect("second half is told", of_command((struct bellrafter_command){0, 1, 22, 9, 5}),
            of_command(ref_look_command(&plain, 3)));
     look_at_all();
     submit_plain(1, 30);
-    want_start("another command with the first half's tag", (struct bellrafter_start){0, 1, 1, 1, 0, 6, 0}, M);
-    want_finish("the other command", M, 1, 0, 0, 4);
+    want_start("another command with the first half's tag", (struct bellrafter_start){0, 1, 1, 1, 0, 6, 0, 6}, M);
+    want_finish("the other command", M, 1, 0, 4, 6);
     want_posted("the other command's status is its own", 1, 4,
                 (struct bellrafter_completion){0, 0xDDCCBBAA, 7, 1, 30, 0, 1});
-    want_finish("second half", M, 3, 0, 0, 5);
+    want_finish("second half", M, 3, 0, 5, 5);
     want_posted("second half of a failed first half", 1, 5,
                 (struct bellrafter_completion){0, 0xDDCCBBAA, 7, 1, 22, 9, 1});
 
     /* Two tail writes, one pair, over the wrap. */
     submit(1, (struct submitted){FIRST});
     submit(1, (struct submitted){SECOND});
-    want_start("pair over the wrap", (struct bellrafter_start){0, 1, 2, 1, 2, 7, 0}, M);
-    want_finish("first half", M, 1, 0, 0, 6);
-    want_finish("second half", M, 2, 3, 0, 7);
+    want_start("pair over the wrap", (struct bellrafter_start){0, 1, 2, 1, 2, 7, 0, 7}, M);
+    want_finish("first half", M, 1, 0, 6, 7);
+    want_finish("second half", M, 2, 3, 7, 8);
     want_posted("SQHD behind the wrap", 1, 7, (struct bellrafter_completion){0, 0xDDCCBBAA, 1, 1, 2, 3, 1});
 
     /* A pair with a verdict has the order of its halves too. */
     submit(1, (struct submitted){5, 1, 1, 1, 4, 5, 6, 0});
     submit(1, (struct submitted){SECOND});
-    want_start("bad pair", (struct bellrafter_start){0, 1, 2, 1, 2, 1, 0x02}, M);
-    want_finish("bad pair, second half first", M, 2, 0, BELLRAFTER_FIRST_HALF, 0);
-    want_finish("bad pair, first half", M, 1, 0, 0, 8);
-    want_finish("bad pair, second half", M, 2, 0, 0, 9);
+    want_start("bad pair", (struct bellrafter_start){0, 1, 2, 1, 2, 1, 0x02, 9}, M);
+    refused_finish("bad pair, second half first", M, 2, 0, BELLRAFTER_FIRST_HALF);
+    want_finish("bad pair, first half", M, 1, 0, 8, 9);
+    want_finish("bad pair, second half", M, 2, 0, 9, 10);
     want_posted("bad pair's verdict stays", 1, 9, (struct bellrafter_completion){0, 0xDDCCBBAA, 3, 1, 2, 2, 1});
     look_at_all();
 }
@@ -800,14 +813,281 @@ static void posting_cases(void)
     for (uint64_t i = 0; i < 12; i++) {
         submit_plain(1, i);
         uint64_t tail = plain.cqs[1].tail, phase = plain.cqs[1].phase;
-        want_start("start", (struct bellrafter_start){0, 1, 1, 0, 0, i % 8, 0}, M);
-        want_finish("posting", M, 0, i, 0, tail);
+        want_start("start", (struct bellrafter_start){0, 1, 1, 0, 0, i % 8, 0, i}, M);
+        want_finish("posting", M, 0, i, tail, i);
         want_posted("posted", 1, tail,
                     (struct bellrafter_completion){0, 0xDDCCBBAA, (uint16_t)((i + 1) % 8), 1, (uint16_t)i, (uint16_t)i,
                                                    (uint32_t)phase});
         require(phase == (i / 4 + 1) % 2, "the phase tag turns at each wrap");
         want("released", 0, twin_head(1, (tail + 1) % 4));
     }
+}
+
+/*
+ * Start numbers: "0 for the first command a controller takes and one more for each further command, a pair taking two
+ * in order". The cases above have them too; that 13 uses none is among start_cases.
+ */
+
+static void want_command(const char *what, uint64_t tag, struct bellrafter_command wanted)
+{
+    expect(what, of_command(wanted), of_command(twin_look_command(tag)));
+}
+
+static void number_cases(void)
+{
+    fresh(0, 0, 64);
+    make_sq(1, 16, 0);
+    make_sq(2, 16, 0);
+    refused_start("12 uses no number", M, BELLRAFTER_NO_CANDIDATE);
+    submit_plain(1, 10);
+    refused_start("5 uses no number", 0, BELLRAFTER_RING_MEMORY);
+    want_start("number 0", (struct bellrafter_start){0, 1, 1, 0, 0, 0, 0, 0}, M);
+    submit_pair(2, 20, 21);
+    submit_plain(1, 11);
+    submit(1, (struct submitted){.fuse = 3, .cid = 12});
+    want_start("a pair takes 1 and 2", (struct bellrafter_start){0, 2, 2, 1, 2, 0, 0, 1}, M);
+    want_command("a pair's first half", 1, (struct bellrafter_command){0, 2, 20, 0, 1});
+    want_command("a pair's second half", 2, (struct bellrafter_command){0, 2, 21, 0, 2});
+    want_start("number 3, on another SQ", (struct bellrafter_start){0, 1, 1, 3, 0, 1, 0, 3}, M);
+    want_start("number 4, with a verdict", (struct bellrafter_start){0, 1, 1, 4, 0, 2, 0x02, 4}, M);
+    submit(2, (struct submitted){5, 1, 1, 22, 4, 5, 6, 0});
+    submit(2, (struct submitted){1, 2, 0, 23, 4, 5, 6, 0});
+    want_start("a bad pair takes 5 and 6", (struct bellrafter_start){0, 2, 2, 5, 6, 2, 0x02, 5}, M);
+    want_command("a bad pair's second half", 6, (struct bellrafter_command){0, 2, 23, 0x02, 6});
+
+    /* In another order than the starts; refusals between have no number. */
+    want_finish("number 4 first", M, 4, 0, 0, 4);
+    want_command("a free tag has no number", 4, (struct bellrafter_command){.refusal = BELLRAFTER_NO_COMMAND});
+    refused_finish("14 has no number", M, 4, 0, BELLRAFTER_NO_COMMAND);
+    refused_finish("5 has no number", 0, 3, 0, BELLRAFTER_RING_MEMORY);
+    refused_finish("15 has no number", M, 3, 32768, BELLRAFTER_STATUS);
+    refused_finish("16 has no number", M, 2, 0, BELLRAFTER_FIRST_HALF);
+    want_finish("number 3", M, 3, 0, 1, 3);
+    want_finish("number 5, of a bad first half", M, 5, 0, 2, 5);
+    want_finish("number 1, of a first half that fails", M, 1, 6, 3, 1);
+    want_command("told of it, number 2", 2, (struct bellrafter_command){0, 2, 21, 9, 2});
+
+    /* Freed tags are used again, numbers are not. */
+    submit_pair(2, 24, 25);
+    submit_plain(1, 13);
+    want_start("tag 1 again, number 7", (struct bellrafter_start){0, 1, 1, 1, 0, 3, 0, 7}, M);
+    want_start("tags 3 and 4 again, numbers 8 and 9", (struct bellrafter_start){0, 2, 2, 3, 4, 4, 0, 8}, M);
+    want_command("tag 4 has number 9", 4, (struct bellrafter_command){0, 2, 25, 0, 9});
+    want_finish("number 8", M, 3, 0, 4, 8);
+    want_finish("number 2, the older second half", M, 2, 0, 5, 2);
+    want_finish("number 9", M, 4, 0, 6, 9);
+    want_finish("number 0, the oldest", M, 0, 0, 7, 0);
+    look_at_all();
+
+    /* A copy of the state goes on with the same numbers. */
+    submit_plain(2, 26);
+    submit_plain(2, 27);
+    save_twin(&here);
+    for (int copy = 0; copy < 3; copy++) {
+        want_start("number 10 in each copy", (struct bellrafter_start){0, 2, 1, 0, 0, 6, 0, 10}, M);
+        want_start("number 11 in each copy", (struct bellrafter_start){0, 2, 1, 2, 0, 7, 0, 11}, M);
+        want_finish("number 11 in each copy", M, 2, 0, 8, 11);
+        want_finish("number 7 in each copy", M, 1, 0, 9, 7);
+        go_back(&here);
+    }
+}
+
+/* A new controller begins with 0, whatever the words were and also where it is refused. */
+static void first_number_cases(void)
+{
+    for (uint64_t mechanism = 0; mechanism < 3; mechanism++) {
+        want("new again", mechanism > 1 ? BELLRAFTER_MECHANISM : 0, twin_new(mechanism, 0));
+        make_cq(1, 64);
+        make_sq(1, 8, 0);
+        want_command("no number before the first start", 0,
+                     (struct bellrafter_command){.refusal = BELLRAFTER_NO_COMMAND});
+        submit_pair(1, 1, 2);
+        submit_plain(1, 3);
+        want_start("number 0 again", (struct bellrafter_start){0, 1, 2, 0, 1, 0, 0, 0}, M);
+        want_start("number 2 again", (struct bellrafter_start){0, 1, 1, 2, 0, 2, 0, 2}, M);
+        want_finish("number 2 again", M, 2, 0, 0, 2);
+    }
+}
+
+/* The library alone: numbers that have more than 8 and more than 16 bits. */
+static void many_numbers(void)
+{
+    static uint64_t words[BELLRAFTER_STATE_WORDS];
+    static uint8_t rings[2 * 4096];
+    bool done = bellrafter_controller_new(words, 0, 0) == 0 &&
+                bellrafter_create_cq(words, rings, sizeof rings, 1, 2, 0) == 0 &&
+                bellrafter_create_sq(words, rings, sizeof rings, 1, 2, 4096, 1, 0) == 0;
+
+    for (uint64_t i = 0; done && i < 70000; i++) {
+        done = bellrafter_tail_write(words, 1, (i + 1) % 2) == 0;
+        struct bellrafter_start s = bellrafter_start(words, rings, sizeof rings);
+        struct bellrafter_command c = bellrafter_look_command(words, 0);
+        struct bellrafter_finish f = bellrafter_finish(words, rings, sizeof rings, 0, 0, 0);
+        done = done && s.refusal == 0 && c.refusal == 0 && f.refusal == 0;
+        done = done && s.number == i && c.number == i && f.number == i;
+        done = done && bellrafter_head_write(words, 1, (i + 1) % 2) == 0;
+    }
+    require(done, "numbers up to 70,000");
+}
+
+/*
+ * "It does not appear in the ring." Two controllers that differ in numbers alone: with so many commands, started and
+ * finished one after another, all rings are back at slot 0 and phase tag 1, and hold the same bytes again.
+ */
+
+enum { BACK = 8 };
+
+static void run_through(uint64_t number)
+{
+    for (uint64_t i = 0; i < BACK; i++) {
+        submit_plain(1, i);
+        want_start("run through", (struct bellrafter_start){0, 1, 1, 0, 0, i, 0, number + i}, M);
+        want_finish("run through", M, 0, i, i % 4, number + i);
+        want("run through", 0, twin_head(1, (i + 1) % 4));
+    }
+}
+
+/* Singles, pairs and a verdict, which are not finished in their order; the next number is `number`. */
+static void same_calls(uint64_t number)
+{
+    submit_plain(1, 100);
+    submit_pair(1, 101, 102);
+    submit(1, (struct submitted){.psdt = 2, .cid = 103});
+    want_start("same calls", (struct bellrafter_start){0, 1, 1, 0, 0, 0, 0, number}, M);
+    want_start("same calls", (struct bellrafter_start){0, 1, 2, 1, 2, 1, 0, number + 1}, M);
+    want_start("same calls", (struct bellrafter_start){0, 1, 1, 3, 0, 3, 0x02, number + 3}, M);
+    want_finish("same calls", M, 3, 0, 0, number + 3);
+    want_finish("same calls", M, 1, 7, 1, number + 1);
+    want_finish("same calls", M, 2, 0, 2, number + 2);
+    want("same calls", 0, twin_head(1, 3));
+    want_finish("same calls", M, 0, 0, 3, number);
+}
+
+static void number_memory_cases(void)
+{
+    static struct saved younger, older;
+
+    fresh(0, 0, 4);
+    make_sq(1, 8, 0);
+    run_through(0);
+    save_twin(&younger);
+    run_through(BACK);
+    save_twin(&older);
+    require(memcmp(younger.memory, older.memory, M) == 0, "the same bytes before");
+    for (uint64_t lap = 0; lap < 3; lap++) { /* with numbers that are 8 apart, then 16, then 24 */
+        go_back(&older);
+        same_calls(BACK * (2 + lap));
+        save_twin(&here);
+        go_back(&younger);
+        same_calls(BACK);
+        compare_memories();
+        require(memcmp(here.memory, plain_memory, M) == 0, "the number does not appear in the ring");
+        go_back(&older);
+        run_through(BACK * (2 + lap));
+        save_twin(&older);
+    }
+}
+
+/*
+ * 32. No calls lead there, so the next number is set, which can be done in the plain controller alone: `alone` is what
+ * the twin's plain one is, with another next number. SQ 1 is served before SQ 2, as in start_cases.
+ */
+
+#define MOST UINT64_C(18446744073709551614)
+
+static struct ref_controller alone;
+static uint8_t alone_memory[MEMORY];
+
+static void set_alone(uint64_t next)
+{
+    alone = plain;
+    alone.next = next;
+    memcpy(alone_memory, plain_memory, MEMORY);
+}
+
+static void start_alone(const char *what, size_t lent, struct bellrafter_start wanted)
+{
+    expect(what, of_start(wanted), of_start(ref_start(&alone, alone_memory, lent)));
+}
+
+/* A start that is refused from such a next number; twice, since it changes nothing: not a turn, not a credit. */
+static void refused_alone(const char *what, size_t lent, uint64_t next, uint64_t refusal)
+{
+    set_alone(next);
+    start_alone(what, lent, (struct bellrafter_start){.refusal = refusal});
+    expect(what, of_number(next), of_number(alone.next));
+    expect(what, of_arbiter(ref_look_arbiter(&plain)), of_arbiter(ref_look_arbiter(&alone)));
+    for (uint64_t id = 0; id < 16; id++)
+        expect(what, of_sq(ref_look_sq(&plain, id)), of_sq(ref_look_sq(&alone, id)));
+    for (uint64_t tag = 0; tag < 64; tag++)
+        expect(what, of_command(ref_look_command(&plain, tag)), of_command(ref_look_command(&alone, tag)));
+    start_alone(what, lent, (struct bellrafter_start){.refusal = refusal});
+}
+
+/* A start that is done from such a next number: the numbers of what it took, and of the finish. */
+static void done_alone(const char *what, uint64_t next, uint64_t count)
+{
+    set_alone(next);
+    start_alone(what, M, (struct bellrafter_start){0, 1, count, 0, count - 1, 0, 0, next});
+    expect(what, of_number(next), of_number(ref_look_command(&alone, 0).number));
+    expect(what, of_number(count == 2 ? next + 1 : 0), of_number(ref_look_command(&alone, 1).number));
+    for (uint64_t i = 0; i < count; i++)
+        expect(what, of_finish((struct bellrafter_finish){0, i, next + i}),
+               of_finish(ref_finish(&alone, alone_memory, M, i, 0, 0)));
+    expect(what, of_number(next + count), of_number(alone.next));
+}
+
+static void last_number_cases(uint64_t mechanism)
+{
+    static const uint8_t trace[16] = {BELLRAFTER_CALL_START}, refused[16] = {BELLRAFTER_CALL_START, 32};
+    uint8_t answer[16];
+
+    fresh(mechanism, 0xFFFFFF07, 64);
+    make_sq(1, 64, 1);
+    make_sq(2, 64, 2);
+    refused_alone("12 before 32", M, TOP, BELLRAFTER_NO_CANDIDATE);
+    submit_plain(2, 5);
+    save_twin(&here);
+
+    submit_plain(1, 1);
+    done_alone("one, two numbers left", MOST - 1, 1);
+    done_alone("one, the last number", MOST, 1);
+    refused_alone("one, no number left", M, TOP, BELLRAFTER_NO_NUMBER);
+    refused_alone("5 before 32", cq_base(1) + 1023, TOP, BELLRAFTER_RING_MEMORY);
+    set_alone(TOP);
+    ref_replay(&alone, alone_memory, M, trace, 16, answer, 16);
+    require(memcmp(answer, refused, 16) == 0, "32 in an answer record");
+
+    go_back(&here);
+    submit_pair(1, 1, 2);
+    submit_plain(1, 3);
+    done_alone("pair, three numbers left", MOST - 2, 2);
+    done_alone("pair, the last two numbers", MOST - 1, 2);
+    refused_alone("pair, one number left, no other SQ tried", M, MOST, BELLRAFTER_NO_NUMBER);
+    refused_alone("pair, no number left", M, TOP, BELLRAFTER_NO_NUMBER);
+    set_alone(MOST - 1);
+    start_alone("pair, then one", M, (struct bellrafter_start){0, 1, 2, 0, 1, 0, 0, MOST - 1});
+    start_alone("no number for one behind a pair", M, (struct bellrafter_start){.refusal = BELLRAFTER_NO_NUMBER});
+    expect("a finish after 32", of_finish((struct bellrafter_finish){0, 0, MOST - 1}),
+           of_finish(ref_finish(&alone, alone_memory, M, 0, 0, 0)));
+    expect("a finish after 32", of_finish((struct bellrafter_finish){0, 1, MOST}),
+           of_finish(ref_finish(&alone, alone_memory, M, 1, 0, 0)));
+    start_alone("a finish frees no number", M, (struct bellrafter_start){.refusal = BELLRAFTER_NO_NUMBER});
+    twin_poke(sq_base(1), (const uint8_t[]){0x77}, 1);
+    refused_alone("a bad pair, one number left", M, MOST, BELLRAFTER_NO_NUMBER);
+
+    go_back(&here);
+    for (uint64_t cid = 0; cid < 63; cid++)
+        submit_plain(1, 10 + cid);
+    for (uint64_t i = 0; i < 63; i++)
+        twin_start(M);
+    submit_pair(1, 1, 2);
+    refused_alone("13 before 32, one tag and one number for a pair", M, MOST, BELLRAFTER_NO_TAG);
+    refused_alone("13 before 32, one tag for a pair", M, TOP, BELLRAFTER_NO_TAG);
+    want("finishing", 0, twin_finish(M, 0, 0, 0).refusal);
+    refused_alone("two tags, one number for a pair", M, MOST, BELLRAFTER_NO_NUMBER);
+    twin_start(M);
+    refused_alone("13 before 32, no tag", M, TOP, BELLRAFTER_NO_TAG);
 }
 
 /* Entries. */
@@ -907,8 +1187,8 @@ static void text_cases(void)
 
     snprintf(version, sizeof version, "%d.%d", BELLRAFTER_VERSION_MAJOR, BELLRAFTER_VERSION_MINOR);
     require(strcmp(version, BELLRAFTER_VERSION) == 0, "the version is that of its two numbers");
-    for (uint64_t a = 0; a <= 32; a++) {
-        bool number = a <= BELLRAFTER_MECHANISM || a == BELLRAFTER_RECORD || a == BELLRAFTER_RECORD_SHORT;
+    for (uint64_t a = 0; a <= 40; a++) {
+        bool number = a <= 23 || (a >= 30 && a <= 32);
         bool none = strcmp(bellrafter_refusal_text(a), bellrafter_refusal_text(TOP)) == 0;
         require(strlen(bellrafter_refusal_text(a)) > 0, "a refusal has a text");
         require(number != none, "a text for refusal numbers, another one for all others");
@@ -916,6 +1196,7 @@ static void text_cases(void)
             require(strcmp(bellrafter_refusal_text(a), bellrafter_refusal_text(b)) != 0, "texts of refusals differ");
     }
     require(strcmp(bellrafter_refusal_text(0), "done") == 0, "done");
+    require(strcmp(bellrafter_refusal_text(32), "too few start numbers are left") == 0, "32");
     require(strcmp(bellrafter_status_text(0x02), "Invalid Field in Command") == 0, "02h");
     require(strcmp(bellrafter_status_text(0x03), "Command ID Conflict") == 0, "03h");
     require(strcmp(bellrafter_status_text(0x09), "Command Aborted due to Failed Fused Command") == 0, "09h");
@@ -941,8 +1222,14 @@ void controller_cases(void)
         all_verdicts();
         pair_cases();
         posting_cases();
+        number_cases();
+        first_number_cases();
+        number_memory_cases();
     }
     guard_reads(false);
+    last_number_cases(0);
+    last_number_cases(1);
+    many_numbers();
     submission_cases();
     guarded_cases();
     text_cases();

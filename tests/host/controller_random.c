@@ -37,6 +37,8 @@
     X(POSTED_VERDICT, "posted a verdict") \
     X(POSTED_09, "posted 09h") \
     X(TAG_REUSED, "first half's tag in use again") \
+    X(OUT_OF_ORDER, "finished before an older one") \
+    X(NUMBER_ABOVE_TAGS, "start number above all tags") \
     X(SQHD_MOVED, "SQ head moved since start") \
     X(MARKED_FINISHES, "command of a marked SQ") \
     X(TAIL_HELD, "10, the tail held") \
@@ -65,7 +67,10 @@ static void happens(enum thing thing, bool yes)
     happened[thing] += yes;
 }
 
-/* The calls with the refusal numbers that each can give, and how often it gave them. */
+/*
+ * The calls with the refusal numbers that each can give, and how often it gave them. 32 is not among them: no run is so
+ * long that a start gives it.
+ */
 enum { NEW, CREATE_CQ, CREATE_SQ, TAIL, HEAD, START, FINISH, CALLS };
 
 static const struct refusals refusals_of[CALLS] = {
@@ -287,7 +292,7 @@ static uint64_t free_tags(void)
     return count;
 }
 
-/* What was so when a command was started, by its number: the SQ's head behind it; of a second half, the first's tag. */
+/* What was so at a command's start, by its start number: the SQ's head behind it; of a second half, the first's tag. */
 static struct {
     uint64_t head, first_tag;
 } at_start[8192];
@@ -341,6 +346,16 @@ static void start(uint64_t damage)
         note_taken(s, &was);
 }
 
+/* Whether a command of a lower start number is outstanding. */
+static bool older_outstanding(uint64_t number)
+{
+    for (int tag = 0; tag < 64; tag++) {
+        if (plain.commands[tag].outstanding && plain.commands[tag].number < number)
+            return true;
+    }
+    return false;
+}
+
 static void note_posted(const struct ref_command *command, const struct ref_cq *was, uint64_t status)
 {
     const struct ref_sq *sq = &plain.sqs[command->sq];
@@ -352,7 +367,9 @@ static void note_posted(const struct ref_command *command, const struct ref_cq *
     happens(POSTED_GIVEN, command->verdict == 0 && status != 0);
     happens(POSTED_VERDICT, command->verdict != 0 && command->verdict != 9);
     happens(POSTED_09, command->verdict == 9);
-    happens(TAG_REUSED, command->first_number != 0 && plain.commands[first_tag].outstanding);
+    happens(TAG_REUSED, command->second_half && plain.commands[first_tag].outstanding);
+    happens(OUT_OF_ORDER, older_outstanding(command->number));
+    happens(NUMBER_ABOVE_TAGS, command->number > 63);
     happens(SQHD_MOVED, sq->head != at_start[command->number % COUNT_OF(at_start)].head);
     happens(MARKED_FINISHES, sq->marked);
 }

@@ -1,7 +1,7 @@
 /*
- * Fixed cases of the replay: the paper's whole case, every refusal that an answer record can have, spare bytes, short
- * records, room for answers. Each is made on the library and on the plain controller (twin.h), and the answer records
- * are also held to those that are written here.
+ * Fixed cases of the replay: the paper's whole case, every refusal that an answer record can have but 32, spare bytes,
+ * short records, room for answers, start numbers. Each is made on the library and on the plain controller (twin.h), and
+ * the answer records are also held to those that are written here.
  */
 #include "twin.h"
 
@@ -237,6 +237,39 @@ static void memory_cases(void)
              "01000300 03000000 04000100 02000200");
 }
 
+/* A replay's starts get start numbers as all others do; its answer records do not tell them. */
+
+static void number(const char *what, uint64_t tag, uint64_t wanted_number)
+{
+    expect(what, of_number(wanted_number), of_number(twin_look_command(tag).number));
+}
+
+static void number_cases(void)
+{
+    fresh(8, 8);
+    commands(0, 7);
+    pair(1);
+    replayed("numbers 0 to 3", M, "01010700 03000000 03010000 03000000 03000000",
+             "01000700 03000000 031E0000 03000100 03000300");
+    number("one replayed", 0, 0);
+    number("first half replayed", 1, 1);
+    number("second half replayed", 2, 2);
+    number("one replayed behind a pair", 3, 3);
+    expect("a start after a replay", of_start((struct bellrafter_start){0, 1, 1, 4, 0, 4, 0, 4}),
+           of_start(twin_start(M)));
+    replayed("number 5 with tag 0", M, "04000000 03000000", "04000000 03000000");
+    replayed("number 6 with tag 3", M, "04030000 03000000 03000000", "04000100 03000300 030C0000");
+    replayed("5 uses no number", 0, "03000000", "03050000");
+    number("a tag used again in a replay", 0, 5);
+    number("another one, behind a finish", 3, 6);
+    expect("a finish after a replay", of_finish((struct bellrafter_finish){0, 2, 6}),
+           of_finish(twin_finish(M, 3, 0, 0)));
+    twin_submit(SQ_BASE + 64 * 7, (struct submitted){.opc = 2, .cid = 7});
+    set_up(twin_tail(1, 0));
+    expect("7 after refused starts of replays", of_start((struct bellrafter_start){0, 1, 1, 3, 0, 7, 0, 7}),
+           of_start(twin_start(M)));
+}
+
 /* Records that are refused by themselves. The controller stands so that each of these is done, one for each call. */
 
 static const char *const good_records[] = {"01010400", "02010100", "03000000", "04000500"};
@@ -362,6 +395,7 @@ void replay_cases(void)
         doorbell_cases();
         finish_cases();
         tag_cases();
+        number_cases();
         memory_cases();
         two_started_one_posted();
         call_numbers();

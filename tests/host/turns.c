@@ -23,7 +23,7 @@ static const struct group groups[] = {
     {"all", 0, 0, 2}, {"urgent", 1, 0, 2}, {"high", 1, 1, 4}, {"medium", 1, 2, 7}, {"low", 1, 3, 10},
 };
 
-/* Whose turn it is in a group, and how often the group was served. */
+/* Whose turn it is in a group, and how often the group was served: the next start number, since no other group was. */
 struct turn {
     uint64_t holder, remainder, starts;
 };
@@ -107,7 +107,8 @@ static void turn_case(const struct group *group, struct turn turn, unsigned cand
     char what[120];
 
     if (candidates != 0)
-        wanted = of_start((struct bellrafter_start){0, next.holder, 1, 0, 0, slot_of(next.holder, turn), 0});
+        wanted = of_start((struct bellrafter_start){
+            0, next.holder, 1, 0, 0, slot_of(next.holder, turn), 0, turn.starts});
     bool answered = equal(&wanted, &came);
     if (answered && equal(&left_wanted, &left)) {
         passed++;
@@ -122,7 +123,8 @@ static void turn_case(const struct group *group, struct turn turn, unsigned cand
 /* Under mechanism 1, SQ 0 is served before all groups, and the turn stays as it was. */
 static void admin_case(const struct group *group, struct turn turn)
 {
-    expect("SQ 0 before a turn", of_start((struct bellrafter_start){.count = 1}), start(turn, 0xFFFF));
+    expect("SQ 0 before a turn", of_start((struct bellrafter_start){.count = 1, .number = turn.starts}),
+           start(turn, 0xFFFF));
     expect("SQ 0 takes no turn", arbiter(group, turn), of_arbiter(bellrafter_look_arbiter(state)));
 }
 
@@ -146,8 +148,8 @@ static uint64_t all_sets(const struct group *group, struct turn turn)
 static void serve(uint64_t id, uint64_t slot)
 {
     set_up(twin_tail(id, slot + 1));
-    expect("leading", of_start((struct bellrafter_start){0, id, 1, 0, 0, slot, 0}), of_start(twin_start(MEMORY)));
-    set_up(twin_finish(MEMORY, 0, 0, 0).refusal);
+    expect("leading", of_start((struct bellrafter_start){0, id, 1, 0, 0, slot, 0, slot}), of_start(twin_start(MEMORY)));
+    expect("leading", of_finish((struct bellrafter_finish){0, slot, slot}), of_finish(twin_finish(MEMORY, 0, 0, 0)));
 }
 
 /* From the first turn of the group, and from each queue that has been served once, and twice. */

@@ -159,13 +159,14 @@ static void look_cq(uint64_t id)
     settle(&(struct call){"look_cq", 1, {id}}, of_cq(ref_look_cq(&plain, id)), of_cq(came), false);
 }
 
-static void look_command(uint64_t tag)
+static struct bellrafter_command look_command(uint64_t tag)
 {
     protect(true, true);
     struct bellrafter_command came = bellrafter_look_command(state, tag);
     protect(false, true);
     settle(&(struct call){"look_command", 1, {tag}}, of_command(ref_look_command(&plain, tag)), of_command(came),
            false);
+    return came;
 }
 
 static void look_arbiter(void)
@@ -193,6 +194,12 @@ void look_at_all(void)
         look_command(tops[i]);
     }
     look_arbiter();
+}
+
+struct bellrafter_command twin_look_command(uint64_t tag)
+{
+    remember();
+    return look_command(tag);
 }
 
 /* The calls. Each is followed by looks at what it may have changed. */

@@ -48,8 +48,9 @@ extern const uint8_t *answer_room;
 struct bellrafter_replay twin_replay(const char *what, size_t lent, const uint8_t *trace, size_t trace_bytes,
                                      size_t room);
 
-/* All look_ calls, for every id and tag and some beyond, one expectation each. */
+/* All look_ calls, for every id and tag and some beyond, one expectation each; and one of them alone. */
 void look_at_all(void);
+struct bellrafter_command twin_look_command(uint64_t tag);
 
 /* The fields of a submission entry that the controller looks at, and one number that fills the others. */
 struct submitted {
