@@ -306,14 +306,27 @@ static unsigned take(struct controller *c, const uint8_t *memory, uint8_t id, st
     bool pair = id != 0 && (e[1] & 3) == 1 && next != r->tail && (f[1] & 3) == 2;
     if (__builtin_popcountll(c->free) < 1 + pair)
         return 13;
+    uint64_t number = c->next;
+    if (number > NUMBER_MOST - pair)
+        return 32;
     uint16_t verdict = pair ? verdict_pair(c, id, e, f) : verdict_one(c, id, e);
     uint8_t first = take_tag(c);
     uint8_t second = pair ? take_tag(c) : 0;
     c->commands[first] = (struct command){.sq = id, .cid = load16(e + 2), .verdict = verdict, .second = pair ? second + 1 : 0};
-    if (pair)
+    c->numbers[first] = number;
+    if (pair) {
         c->commands[second] = (struct command){.sq = id, .cid = load16(f + 2), .verdict = verdict, .first = first + 1};
+        c->numbers[second] = number + 1;
+    }
+    c->next = number + 1 + pair;
     r->head = pair ? (next + 1 == r->size ? 0 : next + 1) : next;
-    *out = (struct started){.sq = id, .count = 1 + pair, .first = first, .second = second, .slot = head, .verdict = verdict};
+    *out = (struct started){.sq = id,
+                            .count = 1 + pair,
+                            .first = first,
+                            .second = second,
+                            .slot = head,
+                            .verdict = verdict,
+                            .number = number};
     return 0;
 }
 
@@ -347,7 +360,8 @@ static void store_completion(uint8_t *p, uint32_t result, uint16_t sqhd, uint16_
     memcpy(p + 14, &last, 2);
 }
 
-unsigned finish(struct controller *c, uint8_t *memory, size_t length, uint64_t tag, uint64_t status, uint32_t result, uint16_t *slot)
+unsigned finish(struct controller *c, uint8_t *memory, size_t length, uint64_t tag, uint64_t status, uint32_t result,
+                struct finished *out)
 {
     if (outside(c, length))
         return 5;
@@ -372,7 +386,7 @@ unsigned finish(struct controller *c, uint8_t *memory, size_t length, uint64_t t
         if (posted && !half->verdict)
             half->verdict = FAILED_FUSED;
     }
-    *slot = r->tail;
+    *out = (struct finished){.slot = r->tail, .number = c->numbers[tag]};
     r->tail = next;
     if (next == 0)
         q->phase ^= 1;
@@ -386,6 +400,7 @@ static unsigned call_record(struct controller *c, uint8_t *memory, size_t length
     uint8_t id = record >> 8;
     uint16_t value = record >> 16;
     struct started s = {0};
+    struct finished f = {0};
     unsigned refusal;
     switch (record & 0xff) {
     case TAIL_WRITE:
@@ -401,7 +416,9 @@ static unsigned call_record(struct controller *c, uint8_t *memory, size_t length
         *result = s.first;
         return refusal;
     case FINISH:
-        return finish(c, memory, length, id, value, 0, result);
+        refusal = finish(c, memory, length, id, value, 0, &f);
+        *result = f.slot;
+        return refusal;
     default:
         return 30;
     }

@@ -35,6 +35,7 @@ struct command {
 };
 
 #define NO_LIMIT UINT32_MAX
+#define NUMBER_MOST (UINT64_MAX - 1)
 
 struct group {
     uint32_t holder;
@@ -50,6 +51,8 @@ struct controller {
     struct submission_queue sqs[16];
     struct completion_queue cqs[16];
     struct command commands[64];
+    uint64_t numbers[64]; /* by tag, like the commands, which a start looks through without them */
+    uint64_t next;        /* the next start number */
     uint64_t free;
     bool weighted;
     uint32_t word;
@@ -64,6 +67,12 @@ struct started {
     uint8_t second;
     uint16_t slot;
     uint16_t verdict;
+    uint64_t number;
+};
+
+struct finished {
+    uint16_t slot;
+    uint64_t number;
 };
 
 unsigned controller_init(struct controller *c, uint64_t mechanism, uint32_t word);
@@ -72,7 +81,8 @@ unsigned create_sq(struct controller *c, size_t memory, uint64_t id, uint64_t si
 unsigned tail_write(struct controller *c, uint64_t id, uint64_t value);
 unsigned head_write(struct controller *c, uint64_t id, uint64_t value);
 unsigned start(struct controller *c, const uint8_t *memory, size_t length, struct started *out);
-unsigned finish(struct controller *c, uint8_t *memory, size_t length, uint64_t tag, uint64_t status, uint32_t result, uint16_t *slot);
+unsigned finish(struct controller *c, uint8_t *memory, size_t length, uint64_t tag, uint64_t status, uint32_t result,
+                struct finished *out);
 unsigned replay(struct controller *c, uint8_t *memory, size_t length, const uint8_t *trace, size_t trace_bytes, uint8_t *answers,
                 size_t room, size_t *records);
 

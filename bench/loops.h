@@ -23,6 +23,7 @@ static inline void hear(uint64_t refusal)
     at.unwanted |= refusal;
 }
 
+/* An answer but for its start number, as one number. */
 static inline uint64_t number_of_start(struct bellrafter_start s)
 {
     return s.verdict << 48 | s.slot << 32 | s.second << 24 | s.first << 16 | s.count << 12 | s.sq << 8 | s.refusal;
@@ -40,11 +41,11 @@ static void trips(uint64_t n, uint64_t finishes, uint64_t last_tag)
 
     for (uint64_t i = 0; i < n; i++) {
         struct bellrafter_start s = call_start();
-        digest = mixed(digest, number_of_start(s));
+        digest = mixed(mixed(digest, number_of_start(s)), s.number);
         unwanted |= s.refusal | s.verdict;
         for (uint64_t k = 0; k < finishes; k++) {
             struct bellrafter_finish f = call_finish(tag, 0, (uint32_t)i);
-            digest = mixed(digest, number_of_finish(f));
+            digest = mixed(mixed(digest, number_of_finish(f)), f.number);
             unwanted |= f.refusal;
             tag = last_tag <= tag ? 0 : tag + 1;
         }

@@ -39,12 +39,12 @@ static inline uint64_t call_head(uint64_t id, uint64_t value)
 static inline struct bellrafter_start call_start(void)
 {
     return (struct bellrafter_start){nothing(0, 0), nothing(0, 0), nothing(0, 0), nothing(0, 0),
-                                     nothing(0, 0), nothing(0, 0), nothing(0, 0)};
+                                     nothing(0, 0), nothing(0, 0), nothing(0, 0), nothing(0, 0)};
 }
 
 static inline struct bellrafter_finish call_finish(uint64_t tag, uint64_t status, uint32_t result)
 {
-    return (struct bellrafter_finish){nothing(tag, status), nothing(result, 0)};
+    return (struct bellrafter_finish){nothing(tag, status), nothing(result, 0), nothing(0, 0)};
 }
 
 static inline struct bellrafter_replay call_replay(void)

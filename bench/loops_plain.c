@@ -36,15 +36,15 @@ static inline struct bellrafter_start call_start(void)
     struct started s = {0};
     unsigned refusal = start(&controller, memory, sizeof memory, &s);
 
-    return (struct bellrafter_start){refusal, s.sq, s.count, s.first, s.second, s.slot, s.verdict};
+    return (struct bellrafter_start){refusal, s.sq, s.count, s.first, s.second, s.slot, s.verdict, s.number};
 }
 
 static inline struct bellrafter_finish call_finish(uint64_t tag, uint64_t status, uint32_t result)
 {
-    uint16_t slot = 0;
-    unsigned refusal = finish(&controller, memory, sizeof memory, tag, status, result, &slot);
+    struct finished f = {0};
+    unsigned refusal = finish(&controller, memory, sizeof memory, tag, status, result, &f);
 
-    return (struct bellrafter_finish){refusal, slot};
+    return (struct bellrafter_finish){refusal, f.slot, f.number};
 }
 
 static inline struct bellrafter_replay call_replay(void)

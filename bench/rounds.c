@@ -114,9 +114,9 @@ static void trips(struct run *run, uint64_t n, uint64_t finishes, uint64_t last_
         unsigned refusal = start(&run->controller, memory, sizeof memory, &s);
         mix_started(run, refusal, &s);
         for (uint64_t k = 0; k < finishes; k++) {
-            uint16_t slot = 0;
-            refusal = finish(&run->controller, memory, sizeof memory, run->tag, 0, i, &slot);
-            mix(run, refusal ? refusal : slot);
+            struct finished f = {0};
+            refusal = finish(&run->controller, memory, sizeof memory, run->tag, 0, i, &f);
+            mix(run, refusal ? refusal : f.slot);
             run->tag = last_tag <= run->tag ? 0 : run->tag + 1;
         }
     }
