@@ -13,7 +13,7 @@ enum Remainder {
 }
 
 /// "A group has a turn holder and a remainder, at first holder 15, remainder 0."
-#[derive(Clone, Copy)]
+#[derive(Clone, Copy, PartialEq)]
 struct Turn {
     holder: usize,
     remainder: Remainder,
@@ -43,7 +43,7 @@ impl Turn {
 }
 
 /// Mechanism, feature word and all that is remembered from one start to the next.
-#[derive(Clone, Copy)]
+#[derive(Clone, Copy, PartialEq)]
 pub struct Arbiter {
     mechanism: u64,
     word: u64,

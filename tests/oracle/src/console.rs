@@ -268,8 +268,8 @@ impl Console {
             "start" => self.start(),
             "finish" => {
                 let memory = &mut self.memory[..lent];
-                let slot = self.controller.finish(memory, n[0], n[1], n[2]);
-                refusal_and(slot.map(|slot| [slot]))
+                let finished = self.controller.finish(memory, n[0], n[1], n[2]);
+                refusal_and(finished.map(|finished| [finished.slot, finished.number]))
             }
             "waiting" => {
                 let part = self.part(n[0], n[1])?;
@@ -298,11 +298,10 @@ impl Console {
 
     fn start(&mut self) -> Vec<u64> {
         let started = self.controller.start(&self.memory[..self.lent]);
-        refusal_and(
-            started.map(|s| {
-                [s.sq as u64, s.count, s.tag as u64, s.second_tag as u64, s.slot, s.verdict]
-            }),
-        )
+        refusal_and(started.map(|s| {
+            let [sq, tag, second_tag] = [s.sq, s.tag, s.second_tag].map(|number| number as u64);
+            [sq, s.count, tag, second_tag, s.slot, s.verdict, s.number]
+        }))
     }
 
     /// The four commands on entries.
@@ -353,8 +352,8 @@ impl Console {
 
     fn show_tag(&self, tag: u64) -> Vec<u64> {
         match &self.controller.tags[tag as usize] {
-            None => vec![0; 4],
-            Some(command) => vec![1, command.sq as u64, command.cid, command.verdict],
+            None => vec![0; 5],
+            Some(c) => vec![1, c.sq as u64, c.cid, c.verdict, c.number],
         }
     }
 }

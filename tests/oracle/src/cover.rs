@@ -3,6 +3,7 @@
 use crate::arbiter::Candidates;
 use crate::console::{lines, Console, Outcome, FORMS};
 use crate::cover_doorbells::{self, Doorbells};
+use crate::cover_numbers::{self, Numbers};
 use crate::cover_replay::{self, record_events, Replay};
 use crate::entry::Submission;
 use crate::line::{number, words};
@@ -104,12 +105,14 @@ struct Cover {
     /// Whether the controller has started nothing.
     fresh: bool,
     doorbells: Doorbells,
+    numbers: Numbers,
 }
 
 /// The table for a script.
 pub fn table(script: &[u8]) -> String {
     let mut cover = Cover { console: Some(Console::new()), ..Cover::default() };
-    let events = EVENTS.into_iter().chain(BURSTS).chain(POINTERS).map(str::to_string);
+    let events = EVENTS.into_iter().chain(BURSTS).chain(POINTERS).chain(cover_numbers::EVENTS);
+    let events = events.map(str::to_string);
     let events = events.chain(cover_doorbells::events()).chain(cover_replay::events());
     cover.events = events.map(|event| (event, [0; 2])).collect();
     for (line, ended) in lines(script) {
@@ -134,7 +137,7 @@ impl Cover {
         let Some(mut console) = self.console.take() else { return };
         self.lines += 1;
         let replay = Replay::of(line, ended).map(|replay| (replay, console.clone()));
-        match self.make(&mut console, line, ended) {
+        match self.make(&mut console, line, ended, false) {
             Outcome::Silent => self.silent += 1,
             Outcome::Bad(_) => self.bad += 1,
             Outcome::Bytes(name, numbers, bytes) => {
@@ -154,8 +157,8 @@ impl Cover {
         self.console = Some(console);
     }
 
-    /// Gives the console a line and counts what it reaches.
-    fn make(&mut self, console: &mut Console, line: &[u8], ended: bool) -> Outcome {
+    /// Gives the console a line, a script's or that of a replayed call, and counts what it reaches.
+    fn make(&mut self, console: &mut Console, line: &[u8], ended: bool, replayed: bool) -> Outcome {
         let asked = arguments(line, ended);
         self.before(console, line, &asked);
         let free = console.controller.free_tags().count();
@@ -165,9 +168,9 @@ impl Cover {
         let before = console.controller.clone();
         let outcome = console.take(line, ended);
         let Outcome::Numbers(name, answer) = &outcome else { return outcome };
-        for event in self.doorbells.events(&before, name, &asked, answer[0]) {
-            self.count(console, &event);
-        }
+        let mut events = self.doorbells.events(&before, name, &asked, answer[0]);
+        events.extend(self.numbers.events(&before, name, &asked, answer, replayed));
+        events.iter().for_each(|event| self.count(console, event));
         match *name {
             "start" => {
                 self.started(console, answer, free);
@@ -205,7 +208,7 @@ impl Cover {
                 self.count(&before, &event);
             }
             if let Ok(call) = Call::of(record) {
-                self.make(&mut before, line_of(&call).as_bytes(), true);
+                self.make(&mut before, line_of(&call).as_bytes(), true, true);
             }
         }
     }
@@ -243,7 +246,7 @@ impl Cover {
     }
 
     fn started(&mut self, console: &Console, answer: &[u64], free: usize) {
-        let [refusal, id, count, tag, second, slot, verdict] = *answer else { return };
+        let [refusal, id, count, tag, second, slot, verdict, _] = *answer else { return };
         if refusal == 13 {
             let event = if free == 0 {
                 "start: 13 with no tag free"
@@ -313,7 +316,7 @@ impl Cover {
 
     /// What stood in the slots taken, beside the queue's other commands.
     fn taken(&mut self, console: &Console, sq: &Sq, answer: &[u64]) {
-        let [_, id, count, tag, _, slot, verdict] = *answer else { return };
+        let [_, id, count, tag, _, slot, verdict, _] = *answer else { return };
         let after = ring::next(sq.size, slot);
         let entries = [slot, after].map(|slot| sq.entry(console.memory(), slot));
         let [Ok(first), Ok(second)] = entries else { return };
@@ -470,6 +473,7 @@ impl Cover {
             self.calls_row(&mut out, name);
         }
         let _ = writeln!(out, "\nrefusal      count  given by");
+        // 32 wants more starts than a script can have.
         for refusal in (1..=23).chain([MALFORMED, SHORT]) {
             let by = self.refusals.get(&refusal).cloned().unwrap_or_default();
             let total: u64 = by.values().sum();

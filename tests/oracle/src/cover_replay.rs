@@ -57,7 +57,7 @@ pub const NAMES: [&str; 5] =
     ["replayed unknown", "replayed tail", "replayed head", "replayed start", "replayed finish"];
 
 /// Those of the rows that were reached.
-fn reached<const COUNT: usize>(rows: [(&str, bool); COUNT]) -> Vec<String> {
+pub fn reached<const COUNT: usize>(rows: [(&str, bool); COUNT]) -> Vec<String> {
     rows.into_iter().filter(|(_, reached)| *reached).map(|(event, _)| event.to_string()).collect()
 }
 

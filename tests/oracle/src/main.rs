@@ -1,13 +1,14 @@
-//! A second implementation of document 01 and of document 02's first two requests, written from the
-//! papers and from the same list of readings (docs/DECISIONS.md), sharing no code with the model,
-//! with a generator of random scripts in the console's language and a runner that holds another
-//! console to it.
+//! A second implementation of document 01 and of document 02's first four requests, as far as they
+//! change an answer, written from the papers and from the same list of readings
+//! (docs/DECISIONS.md), sharing no code with the model, with a generator of random scripts in the
+//! console's language and a runner that holds another console to it.
 
 mod arbiter;
 mod compare;
 mod console;
 mod cover;
 mod cover_doorbells;
+mod cover_numbers;
 mod cover_replay;
 mod creates;
 mod entry;
@@ -24,6 +25,8 @@ mod ring;
 mod shrink;
 mod traced;
 mod traced_doorbells;
+mod traced_limit;
+mod traced_numbers;
 mod traced_replay;
 mod traffic;
 mod walk;

@@ -1,6 +1,6 @@
-//! The controller of document 01: creates, doorbell writes, start and finish. Refusals are
-//! the paper's numbers. Each condition of the refusal table is tested by itself, and the
-//! first in the paper's order is given.
+//! The controller of document 01: creates, doorbell writes, start and finish, with the start
+//! numbers of document 02's fourth request. Refusals are the papers' numbers. Each condition of
+//! the refusal table is tested by itself, and the first in the papers' order is given.
 
 use crate::arbiter::{Arbiter, Candidates, QUEUES};
 use crate::entry::{Completion, Submission, COMPLETION, STATUS_MAX, SUBMISSION};
@@ -9,13 +9,16 @@ use crate::ring::{self, Extent};
 /// "Up to 64 commands are outstanding".
 pub const TAGS: usize = 64;
 
+/// "A start that would need a number above 18,446,744,073,709,551,614 is refused with 32".
+const LAST_NUMBER: u64 = 18_446_744_073_709_551_614;
+
 /// The verdicts, and the status of a second half whose first half failed.
 pub const INVALID_FIELD: u64 = 0x02;
 pub const CID_CONFLICT: u64 = 0x03;
 pub const FAILED_FUSED: u64 = 0x09;
 pub const MISSING_FUSED: u64 = 0x0A;
 
-#[derive(Clone)]
+#[derive(Clone, PartialEq)]
 pub struct Sq {
     pub base: u64,
     pub size: u64,
@@ -26,7 +29,7 @@ pub struct Sq {
     pub marked: bool,
 }
 
-#[derive(Clone)]
+#[derive(Clone, PartialEq)]
 pub struct Cq {
     pub base: u64,
     pub size: u64,
@@ -49,16 +52,18 @@ pub enum Part {
 }
 
 /// An outstanding command.
-#[derive(Clone)]
+#[derive(Clone, PartialEq)]
 pub struct Command {
     pub sq: usize,
     pub cid: u64,
     pub verdict: u64,
     pub part: Part,
+    /// "Each outstanding command shall carry a start number".
+    pub number: u64,
 }
 
 /// "It answers the SQ id, how many commands, the first tag, the second tag (0 if one is
-/// taken), the first slot and the verdict."
+/// taken), the first slot and the verdict." Of start numbers it reports "its first command's".
 pub struct Started {
     pub sq: usize,
     pub count: u64,
@@ -66,14 +71,23 @@ pub struct Started {
     pub second_tag: usize,
     pub slot: u64,
     pub verdict: u64,
+    pub number: u64,
 }
 
-#[derive(Clone)]
+/// "The answer names the slot", in the CQ; and "Finish reports" the command's start number.
+pub struct Finished {
+    pub slot: u64,
+    pub number: u64,
+}
+
+#[derive(Clone, PartialEq)]
 pub struct Controller {
     arbiter: Arbiter,
     pub sqs: [Option<Sq>; QUEUES],
     pub cqs: [Option<Cq>; QUEUES],
     pub tags: [Option<Command>; TAGS],
+    /// The start number of the command that is taken next.
+    pub next_number: u64,
 }
 
 /// A list of refusal numbers, each with whether it applies, in the order of the paper.
@@ -124,6 +138,8 @@ impl Controller {
             sqs: std::array::from_fn(|_| None),
             cqs: std::array::from_fn(|_| None),
             tags: std::array::from_fn(|_| None),
+            // "0 for the first command a controller takes".
+            next_number: 0,
         };
         (if refused { 23 } else { 0 }, fresh)
     }
@@ -261,8 +277,8 @@ impl Controller {
         self.tags.iter().flatten().any(|command| command.sq == sq && command.cid == cid)
     }
 
-    /// "start 5, 12, 13". "One start takes one command, or a whole pair, and counts as one;
-    /// the SQ head moves past what is taken."
+    /// "start 5, 12, 13", and 32 "after 13 in the order". "One start takes one command, or a whole
+    /// pair, and counts as one; the SQ head moves past what is taken."
     pub fn start(&mut self, memory: &[u8]) -> Result<Started, u64> {
         self.every_ring_in(memory.len())?;
         let (id, arbiter) = self.arbiter.choose(&self.candidates()).ok_or(12u64)?;
@@ -289,20 +305,26 @@ impl Controller {
             None => 0,
         };
         drop(free);
+        // "one more for each further command, a pair taking two in order": a pair needs the number
+        // after the first too, whatever its verdict.
+        let count = if second.is_some() { 2 } else { 1 };
+        let number = self.next_number;
+        let last_number = number.checked_add(count - 1).filter(|last| *last <= LAST_NUMBER);
+        let last_number = last_number.ok_or(32u64)?;
         let head = if second.is_some() { ring::next(sq.size, after) } else { after };
 
         self.arbiter = arbiter;
         self.move_sq_head(id, head);
+        self.next_number = last_number + 1;
         let mut part = Part::Alone;
         if let Some(second) = &second {
             part = Part::First(second_tag);
-            let waiting = Part::SecondWaiting;
+            let (cid, part) = (second.cid, Part::SecondWaiting);
             self.tags[second_tag] =
-                Some(Command { sq: id, cid: second.cid, verdict, part: waiting });
+                Some(Command { sq: id, cid, verdict, part, number: last_number });
         }
-        self.tags[tag] = Some(Command { sq: id, cid: first.cid, verdict, part });
-        let count = if second.is_some() { 2 } else { 1 };
-        Ok(Started { sq: id, count, tag, second_tag, slot, verdict })
+        self.tags[tag] = Some(Command { sq: id, cid: first.cid, verdict, part, number });
+        Ok(Started { sq: id, count, tag, second_tag, slot, verdict, number })
     }
 
     fn move_sq_head(&mut self, id: usize, head: u64) {
@@ -344,14 +366,14 @@ impl Controller {
         }
     }
 
-    /// "finish 5, 14, 15, 16, 17". Answers the slot in the CQ.
+    /// "finish 5, 14, 15, 16, 17".
     pub fn finish(
         &mut self,
         memory: &mut [u8],
         tag: u64,
         status: u64,
         result: u64,
-    ) -> Result<u64, u64> {
+    ) -> Result<Finished, u64> {
         self.every_ring_in(memory.len())?;
         let tag = usize::try_from(tag).map_err(|_| 14u64)?;
         let command = self.tags.get(tag).and_then(Option::as_ref).ok_or(14u64)?;
@@ -387,12 +409,12 @@ impl Controller {
         if cq.tail == 0 {
             cq.phase = 1 - cq.phase;
         }
-        let part = command.part;
+        let (part, number) = (command.part, command.number);
         self.tags[tag] = None;
         if let Part::First(second) = part {
             self.release(second, posted);
         }
-        Ok(slot)
+        Ok(Finished { slot, number })
     }
 
     /// The first half was posted with this status: the second may be finished from now on,

@@ -41,14 +41,17 @@ impl Call {
         }
     }
 
-    /// Makes the call. Answers its result: "value written, first tag, or slot posted".
+    /// Makes the call. Answers its result: "value written, first tag, or slot posted". A start
+    /// takes start numbers like any other; they stand in no answer record.
     fn make(&self, controller: &mut Controller, memory: &mut [u8]) -> Result<u64, u64> {
         match *self {
             Call::Tail { sq, value } => controller.write_tail(sq, value).map(|()| value),
             Call::Head { cq, value } => controller.write_head(cq, value).map(|()| value),
             Call::Start => controller.start(memory).map(|started| started.tag as u64),
             // "A finish takes the value as status and 0 as result."
-            Call::Finish { tag, status } => controller.finish(memory, tag, status, 0),
+            Call::Finish { tag, status } => {
+                controller.finish(memory, tag, status, 0).map(|finished| finished.slot)
+            }
         }
     }
 }

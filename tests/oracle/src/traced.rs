@@ -1,14 +1,14 @@
 //! The traced examples at the end of document 01, with a few on pairs and on input lines,
-//! played through the console. `oracle selftest` runs them and those of document 02's requests,
-//! and so does `cargo test`.
+//! played through the console. `oracle selftest` runs them and the trials of document 02's
+//! requests, and so does `cargo test`.
 
 use crate::console::{answers, Console};
-use crate::{traced_doorbells, traced_replay};
+use crate::{traced_doorbells, traced_limit, traced_numbers, traced_replay};
 
 /// A console that remembers every answer other than the expected one.
 pub struct Trial {
-    console: Console,
-    faults: Vec<String>,
+    pub console: Console,
+    pub faults: Vec<String>,
 }
 
 impl Trial {
@@ -53,7 +53,8 @@ impl Trial {
         }
     }
 
-    /// Starts until 12, and holds the ids served against the given row.
+    /// Starts until 12, and holds the ids served against the given row; the start numbers count
+    /// them from 0.
     fn served(&mut self, row: &str) {
         let mut ids = Vec::new();
         loop {
@@ -62,12 +63,15 @@ impl Trial {
             if words[1] != "0" {
                 break;
             }
+            if words[8] != ids.len().to_string() {
+                self.faults.push(format!("{answer} after {} commands", ids.len()));
+            }
             ids.push(words[2].to_string());
         }
         if ids.join(" ") != row {
             self.faults.push(format!("served {}, expected {row}", ids.join(" ")));
         }
-        self.expect("start", "start 12 0 0 0 0 0 0");
+        self.expect("start", "start 12 0 0 0 0 0 0 0");
     }
 }
 
@@ -111,8 +115,8 @@ fn p4_and_p5(t: &mut Trial) {
              create-cq 1 4 0 => create-cq 0
              create-sq 1 4 4096 1 0 => create-sq 0
              tail 1 3 => tail 0
-             start => start 0 1 1 0 0 0 0
-             start => start 0 1 1 1 0 1 3",
+             start => start 0 1 1 0 0 0 0 0
+             start => start 0 1 1 1 0 1 3 1",
         );
         let expected = if value == "1" { "tail 0" } else { "tail 10" };
         t.expect(&format!("tail 1 {value}"), expected);
@@ -154,18 +158,18 @@ fn cq_size_2(t: &mut Trial) {
         "create-cq 0 2 0 => create-cq 0
          create-sq 0 8 4096 0 0 => create-sq 0
          tail 0 3 => tail 0
-         start => start 0 0 1 0 0 0 0
-         start => start 0 0 1 1 0 1 3
-         start => start 0 0 1 2 0 2 3
-         finish 0 0 0 => finish 0 0
+         start => start 0 0 1 0 0 0 0 0
+         start => start 0 0 1 1 0 1 3 1
+         start => start 0 0 1 2 0 2 3 2
+         finish 0 0 0 => finish 0 0 0
          peek 14 2 => peek 0100
-         finish 1 0 0 => finish 17 0
+         finish 1 0 0 => finish 17 0 0
          head 0 1 => head 0
-         finish 1 0 0 => finish 0 1
+         finish 1 0 0 => finish 0 1 1
          peek 30 2 => peek 0700
-         finish 2 0 0 => finish 17 0
+         finish 2 0 0 => finish 17 0 0
          head 0 0 => head 0
-         finish 2 0 0 => finish 0 0
+         finish 2 0 0 => finish 0 0 2
          peek 14 2 => peek 0600",
     );
 }
@@ -179,19 +183,19 @@ fn pairs(t: &mut Trial) {
          write-sqe 4160 64 5 1 0 11 1 0 0 0 9 3 0 0 0 0 => write-sqe 0
          write-sqe 4224 64 1 2 0 12 1 0 0 0 9 3 0 0 0 0 => write-sqe 0
          tail 1 2 => tail 0
-         start => start 0 1 1 0 0 0 10
+         start => start 0 1 1 0 0 0 10 0
          tail 1 3 => tail 0
-         start => start 0 1 2 1 2 1 0
-         finish 2 0 0 => finish 16 0
-         finish 1 5 0 => finish 0 0
-         show-tag 2 => show-tag 1 1 12 9
+         start => start 0 1 2 1 2 1 0 1
+         finish 2 0 0 => finish 16 0 0
+         finish 1 5 0 => finish 0 0 1
+         show-tag 2 => show-tag 1 1 12 9 2
          write-sqe 4288 64 5 1 0 13 1 0 0 0 9 3 0 0 0 0 => write-sqe 0
          write-sqe 4096 64 1 2 0 14 1 0 0 0 9 3 0 0 0 0 => write-sqe 0
          tail 1 1 => tail 0
-         start => start 0 1 2 1 3 3 0
-         finish 2 0 7 => finish 0 1
+         start => start 0 1 2 1 3 3 0 3
+         finish 2 0 7 => finish 0 1 2
          peek 16 16 => peek 0700000000000000010001000c001300
-         finish 0 0 0 => finish 0 2",
+         finish 0 0 0 => finish 0 2 0",
     );
 }
 
@@ -223,14 +227,16 @@ const TRIALS: [Named; 10] = [
 
 /// Plays all trials; answers what went wrong.
 pub fn faults() -> Vec<String> {
-    let mut all = Vec::new();
     let trials = TRIALS.into_iter().chain(traced_doorbells::TRIALS).chain(traced_replay::TRIALS);
-    for (name, play) in trials {
-        let mut trial = Trial::new();
-        play(&mut trial);
-        all.extend(trial.faults.into_iter().map(|fault| format!("{name}: {fault}")));
-    }
-    all
+    let trials = trials.chain(traced_numbers::TRIALS).chain(traced_limit::TRIALS);
+    trials.flat_map(played).collect()
+}
+
+/// Plays one trial; answers what went wrong.
+pub fn played((name, play): Named) -> Vec<String> {
+    let mut trial = Trial::new();
+    play(&mut trial);
+    trial.faults.into_iter().map(|fault| format!("{name}: {fault}")).collect()
 }
 
 #[cfg(test)]

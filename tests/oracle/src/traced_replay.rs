@@ -11,7 +11,7 @@ fn record(digits: &str) -> String {
 impl Trial {
     /// Replays records, given by their first bytes, and expects such answer records, with room
     /// for just these.
-    fn replays(&mut self, rows: &[(&str, &str)]) {
+    pub fn replays(&mut self, rows: &[(&str, &str)]) {
         let sent: Vec<String> = rows.iter().map(|(sent, _)| record(sent)).collect();
         let answered: String = rows.iter().map(|(_, answered)| record(answered)).collect();
         let count = rows.len();
@@ -20,7 +20,7 @@ impl Trial {
     }
 
     /// A fresh controller with SQ 1 and CQ 1 of these sizes, and CIDs 0, 1, 2 in the SQ.
-    fn queue_1(&mut self, sq_size: u64, cq_size: u64) {
+    pub fn queue_1(&mut self, sq_size: u64, cq_size: u64) {
         self.expect("controller 0 0", "controller 0");
         self.expect(&format!("create-cq 1 {cq_size} 0"), "create-cq 0");
         self.expect(&format!("create-sq 1 {sq_size} 4096 1 0"), "create-sq 0");
@@ -33,7 +33,7 @@ fn whole_case(t: &mut Trial) {
     t.replays(&[("01010100", "01000100"), ("03000000", "03000000"), ("03000000", "030c0000")]);
     t.play(
         "show-sq 1 => show-sq 1 4096 4 1 1 1 0 0
-         show-tag 0 => show-tag 1 1 0 0",
+         show-tag 0 => show-tag 1 1 0 0 0",
     );
 }
 
@@ -83,7 +83,7 @@ fn refusals(t: &mut Trial) {
     ]);
     t.play(
         "show-sq 1 => show-sq 1 4096 4 2 2 1 0 1
-         show-tag 1 => show-tag 1 1 1 0
+         show-tag 1 => show-tag 1 1 1 0 1
          lend 4096 => lend 4096",
     );
     t.replays(&[("03", "03050000"), ("04400080", "04050000"), ("02010100", "02000100")]);
