@@ -21,7 +21,7 @@ use store::reset;
 use store::sq_at;
 use words::command::Command;
 
-// The SQ, how many commands, their tags, the first slot and the verdict.
+// The SQ, how many commands, their tags, the first slot, the verdict and the first start number.
 fn started(answer: Started) -> Reply {
     match answer {
         Started::One {
@@ -29,35 +29,39 @@ fn started(answer: Started) -> Reply {
             tag,
             slot,
             verdict,
+            number,
         } => Reply::of(0)
             .and8(sq)
             .and(1)
             .and8(tag)
             .and(0)
             .and16(slot)
-            .and16(verdict),
+            .and16(verdict)
+            .and(number),
         Started::Pair {
             sq,
             first,
             second,
             slot,
             verdict,
+            number,
         } => Reply::of(0)
             .and8(sq)
             .and(2)
             .and8(first)
             .and8(second)
             .and16(slot)
-            .and16(verdict),
-        Started::Refused(n) => Reply::refused(n, 7),
+            .and16(verdict)
+            .and(number),
+        Started::Refused(n) => Reply::refused(n, 8),
     }
 }
 
-// The slot.
+// The slot and the start number.
 fn finished(answer: Finished) -> Reply {
     match answer {
-        Finished::Slot { slot } => Reply::of(0).and16(slot),
-        Finished::Refused(n) => Reply::refused(n, 2),
+        Finished::Slot { slot, number } => Reply::of(0).and16(slot).and(number),
+        Finished::Refused(n) => Reply::refused(n, 3),
     }
 }
 
@@ -115,10 +119,14 @@ fn show_tag(state: &[u64; WORDS], a: [u64; 16]) -> Reply {
         return Reply::bad();
     }
     if !is_outstanding(free_of(state), tag) {
-        return Reply::refused(0, 4);
+        return Reply::refused(0, 5);
     }
     let k = command_at(state, tag as usize);
-    Reply::of(1).and8(k.sq).and16(k.cid).and16(k.verdict)
+    Reply::of(1)
+        .and8(k.sq)
+        .and16(k.cid)
+        .and16(k.verdict)
+        .and(k.number)
 }
 
 pub fn show(state: &[u64; WORDS], command: Command, a: [u64; 16]) -> Reply {
