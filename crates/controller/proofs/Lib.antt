@@ -11,6 +11,9 @@ pub mod Unserved
 pub mod Submitted
 pub mod CountsOne
 pub mod Links
+pub mod Numbered
+pub mod Matched
+pub mod Unnumbered
 pub mod Apart
 pub mod Answered
 pub mod Exactly
@@ -26,5 +29,6 @@ pub mod Doorbells
 pub mod Undisturbed
 pub mod ThreePasses
 pub mod HostWrites
+pub mod LastNumber
 pub mod Reaches
 pub mod Settled

@@ -88,10 +88,10 @@ module _ (ks : List Command) {f t u left : ℕ} (j k : Command) (n : length ks �
   differ : t ≡ u → ⊥
   differ e = omega (arith, w .rising)
 
-  at-first : getD added t noCommand ≡ j
+  pub at-first : getD added t noCommand ≡ j
   at-first = getD-set-other (set ks t j) u t k noCommand differ ∙ getD-set-same ks t j noCommand (rw n (w .first .low))
 
-  at-second : getD added u noCommand ≡ k
+  pub at-second : getD added u noCommand ≡ k
   at-second = getD-set-same (set ks t j) u k noCommand (rw (length-set ks t j, n) (w .second .low))
 
   new-halves : Halves added left t u

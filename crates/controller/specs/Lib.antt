@@ -12,5 +12,6 @@ pub mod Calls
 pub mod Steps
 pub mod Valid
 pub mod Book
+pub mod Numbers
 pub mod Refusing
 pub mod Demand

@@ -1,0 +1,164 @@
+-- An inspector who has the answers alone matches each completion to its start by the number: a finish answers the number under which
+-- its tag was last taken, and no number is answered twice. Assumes nothing.
+use Prim.Native.Nat.{ℕ, _+_, _<_}
+use mathlib.Core.Bool.{Bool, true}
+use mathlib.Core.List.{List, [], _∷_, _++_, foldl}
+use mathlib.Core.Logic.{⊎-elim}
+use mathlib.Core.Path.{_≡_, refl, sym, _∙_}
+use native.Mathlib.Omega.{arith}
+use lib.ListN.{length, getD, set, length-set}
+use borrow.Author.Tests.{eq-eqb, ne-eqb}
+use Rattle.bits.specs.Tags.{givenBack}
+use Rattle.bits.proofs.Tags.{OneTaken}
+use Rattle.le.specs.Memory.{Memory}
+use Rattle.controller.specs.declared.Command.{Command}
+use Rattle.controller.specs.Controller.{Controller}
+use Rattle.controller.specs.State.{noCommand, commandAt, outstanding, freshController}
+use Rattle.controller.specs.Valid.{Valid}
+use Rattle.controller.specs.Starting.{oneTaken, pairTaken}
+use Rattle.controller.specs.Finishing.{released, unlinked, finishedController}
+use Rattle.controller.specs.Answers.{FinishAnswer, finished, startsIn, Outcome}
+use Rattle.controller.specs.Calls.{Call, finish, perform, Reachable, fresh, after}
+use Rattle.controller.specs.Refusing.{Among}
+use Rattle.controller.specs.Steps.{Given, Step, steps, final}
+use Rattle.controller.specs.Book.{update}
+use Rattle.controller.specs.Numbers.{noted, notes, finishedIn, numbersFinished}
+use Rattle.controller.proofs.Lists.{set-ind}
+use Rattle.controller.proofs.Outstanding.{out-set, taken-other, back-gone, back-out}
+use Rattle.controller.proofs.Unlinked.{unlinked-same}
+use Rattle.controller.proofs.Made.{takes-one, takes-pair, finishes, Commands, refused-leaves, done-leaves, changes, of-commands}
+use Rattle.controller.proofs.Made.{made}
+use Rattle.controller.proofs.Validity.{none-out, valid}
+use Rattle.controller.proofs.Numbered.{Numbers, numbers, finish-number}
+
+-- ---- the number under which a tag was last taken
+
+-- the notes have the number of every outstanding command
+abbrev Noted : (ℕ → ℕ) → List Command → ℕ → Type 0
+Noted f ks free = (t : ℕ) → outstanding free t ≡ true → f t ≡ getD ks t noCommand .number
+
+taken-noted : (f : ℕ → ℕ) (ks : List Command) {free t left : ℕ} (k : Command) → length ks ≡ 64 → OneTaken free t left
+    → Noted f ks free → Noted (update f t (k .number)) (set ks t k) left
+taken-noted f ks {t = t} {left = left} k many w h =
+    set-ind ks t k noCommand (λ j x. outstanding left j ≡ true → update f t (k .number) j ≡ x .number) (rw many (w .low))
+    (λ o. rw (eq-eqb t t refl)) (λ j d o. rw (ne-eqb j t d) (h j (sym (taken-other w j d) ∙ o)))
+
+finished-noted : (f : ℕ → ℕ) (ks : List Command) (free tag second status : ℕ) → outstanding free tag ≡ true
+    → Noted f ks free → Noted f (unlinked ks second status) (givenBack free tag)
+unfolding released
+finished-noted f ks free tag second status out h t o =
+    h t (sym (back-out free tag t (back-gone free tag (out-set free tag out .0) t o)) ∙ o)
+    ∙ sym (unlinked-same ks second status (λ k. k .number) (λ k. refl) t)
+
+abbrev NotedIn : (ℕ → ℕ) → Controller → Type 0
+NotedIn f c = Noted f (c .commands) (c .free)
+
+noted-kept : (f : ℕ → ℕ) {c : Controller} {m : Memory} {call : Call} {o : Outcome} → Valid c → NotedIn f c → Commands c m call o
+    → NotedIn (foldl noted f (startsIn (o .answer))) (o .controller)
+unfolding oneTaken pairTaken finishedController
+noted-kept f v h (refused-leaves call n xs) = h
+noted-kept f v h (done-leaves call xs ys) = h
+noted-kept f {c} v h (changes (takes-one id a t left s e w)) = taken-noted f (c .commands) _ (v .commands-64) w h
+noted-kept f {c} v h (changes (takes-pair id a t u left s e w)) =
+    taken-noted (update f t _) (set (c .commands) t _) _ (length-set (c .commands) t _ ∙ v .commands-64) (w .second)
+    (taken-noted f (c .commands) _ (v .commands-64) (w .first) h)
+noted-kept f {c} v h (changes (finishes tag status result r)) = finished-noted f (c .commands) (c .free) tag _ _ (r .out) h
+
+abbrev takes-notes : (ℕ → ℕ) → Step → ℕ → ℕ
+takes-notes f s = foldl noted f (startsIn (s .outcome .answer))
+
+notes-kept : (gs : List Given) (f : ℕ → ℕ) {c : Controller} → Reachable c → NotedIn f c
+    → NotedIn (foldl takes-notes f (steps c gs)) (final c gs)
+notes-kept [] f r h = h
+notes-kept (g ∷ gs) f {c} r h =
+    notes-kept gs _ (after r (g .memory) (g .call))
+    (noted-kept f (valid r) h (of-commands (made c (g .memory) (valid r .free-64) (g .call))))
+
+-- ---- no number is answered twice
+
+-- no number stands twice in the list
+abbrev pub Once : List ℕ → Type 0
+Once [] = Unit {0}
+Once (n ∷ ns) = (Among n ns → ⊥) × Once ns
+
+-- the numbers that were answered lie below the next, and no outstanding command bears one of them
+record Answered (ns : List ℕ) (ks : List Command) (free n : ℕ) : Type 0 where
+  pub low : (k : ℕ) → Among k ns → k < n
+  pub gone : (t : ℕ) → outstanding free t ≡ true → Among (getD ks t noCommand .number) ns → ⊥
+  pub once : Once ns
+
+taken-answered : {ns : List ℕ} (ks : List Command) {free t left n next : ℕ} (k : Command) → length ks ≡ 64 → OneTaken free t left
+    → k .number ≡ n → next ≡ n + 1 → Answered ns ks free n → Answered ns (set ks t k) left next
+taken-answered {ns} ks {t = t} {left = left} {n = n} k many w e f h =
+    record {
+      low = λ x a. omega (arith, f, h .low x a);
+      gone =
+          set-ind ks t k noCommand (λ j x. outstanding left j ≡ true → Among (x .number) ns → ⊥) (rw many (w .low))
+          (λ o a. omega (arith, e, h .low (k .number) a)) (λ j d o. h .gone j (sym (taken-other w j d) ∙ o));
+      once = h .once;
+    }
+
+finished-answered : {ns : List ℕ} (ks : List Command) (free tag second status : ℕ) {n : ℕ} → outstanding free tag ≡ true
+    → Numbers ks free n → Answered ns ks free n
+    → Answered (getD ks tag noCommand .number ∷ ns) (unlinked ks second status) (givenBack free tag) n
+unfolding released
+finished-answered {ns} ks free tag second status out b h =
+    record {
+      low = λ k a. ⊎-elim (λ (e : k ≡ number tag). omega (arith, e, b .below tag out)) (h .low k) a;
+      gone = λ t o a.
+          let d = back-gone free tag (out-set free tag out .0) t o in
+          let p = sym (back-out free tag t d) ∙ o in
+          ⊎-elim (λ e. d (b .distinct t tag p out (sym (same t) ∙ e))) (λ x. h .gone t p (rw (same t) at x)) a;
+      once = (h .gone tag out, h .once);
+    }
+  where
+    number : ℕ → ℕ
+    number t = getD ks t noCommand .number
+
+    same : (t : ℕ) → getD (unlinked ks second status) t noCommand .number ≡ getD ks t noCommand .number
+    same = unlinked-same ks second status (λ k. k .number) (λ k. refl)
+
+abbrev AnsweredIn : List ℕ → Controller → Type 0
+AnsweredIn ns c = Answered ns (c .commands) (c .free) (c .nextNumber)
+
+answered-kept : {ns : List ℕ} {c : Controller} {m : Memory} {call : Call} {o : Outcome} → Reachable c → AnsweredIn ns c
+    → Commands c m call o → AnsweredIn (finishedIn (o .answer) ++ ns) (o .controller)
+unfolding oneTaken pairTaken finishedController
+answered-kept r h (refused-leaves call n xs) = h
+answered-kept r h (done-leaves call xs ys) = h
+answered-kept {c = c} r h (changes (takes-one id a t left s e w)) =
+    taken-answered (c .commands) _ (valid r .commands-64) w refl refl h
+answered-kept {c = c} r h (changes (takes-pair id a t u left s e w)) =
+    taken-answered (set (c .commands) t _) _ (length-set (c .commands) t _ ∙ valid r .commands-64) (w .second) refl (omega arith)
+    (taken-answered (c .commands) _ (valid r .commands-64) (w .first) refl refl h)
+answered-kept {c = c} r h (changes (finishes tag status result f)) =
+    finished-answered (c .commands) (c .free) tag _ _ (f .out) (numbers r) h
+
+abbrev gathers : List ℕ → Step → List ℕ
+gathers ns s = finishedIn (s .outcome .answer) ++ ns
+
+all-answered : (gs : List Given) (ns : List ℕ) {c : Controller} → Reachable c → AnsweredIn ns c
+    → AnsweredIn (foldl gathers ns (steps c gs)) (final c gs)
+all-answered [] ns r h = h
+all-answered (g ∷ gs) ns {c} r h =
+    all-answered gs _ (after r (g .memory) (g .call)) (answered-kept r h (of-commands (made c (g .memory) (valid r .free-64) (g .call))))
+
+-- ---- any list of calls from a fresh controller
+
+module _ (weighted : Bool) (word : ℕ) (gs : List Given) where
+  abbrev c : Controller
+  c = freshController weighted word
+
+  pub noted-number : (t : ℕ) → outstanding (final c gs .free) t ≡ true → notes c gs t ≡ commandAt (final c gs) t .number
+  noted-number = notes-kept gs (λ t. 0) (fresh weighted word) (λ t o. absurd (none-out t o))
+
+  -- a finish answers the number under which its tag was last taken
+  pub matched : (m : Memory) (tag status result : ℕ) {f : FinishAnswer}
+      → perform (final c gs) m (finish tag status result) .answer ≡ finished f → f .number ≡ notes c gs tag
+  matched m tag status result e =
+      let n = finish-number (final c gs) m tag status result e in n .1 ∙ sym (noted-number tag (n .0))
+
+  -- no two finishes answer the same number
+  pub never-twice : Once (numbersFinished c gs)
+  never-twice =
+      all-answered gs [] (fresh weighted word) (record { low = λ k a. absurd a; gone = λ t o. absurd (none-out t o); once = tt }) .once
