@@ -17,7 +17,8 @@ use Rattle.controller.specs.declared.SubmissionQueue.{SubmissionQueue}
 use Rattle.controller.specs.declared.CompletionQueue.{CompletionQueue}
 use Rattle.controller.specs.declared.Command.{Command}
 use Rattle.controller.specs.Controller.{Controller}
-use Rattle.controller.specs.State.{noSq, noCq, sqAt, cqAt, withSq, withCq, withCommands, withNextNumber, withHead, withTail, freshController}
+use Rattle.controller.specs.State.{noSq, noCq, sqAt, cqAt, withSq, withCq, withCommands, withHead, withTail, freshController}
+use Rattle.controller.specs.State.{withNextNumber}
 use Rattle.controller.specs.Rings.{RingTest, existing, someSq, someCq, someRing, shareByte, sharing, shares, endsPast, outside}
 use Rattle.controller.specs.Valid.{RingOk, Valid}
 use Rattle.controller.specs.Create.{newCq, newSq}

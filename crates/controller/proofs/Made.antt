@@ -35,8 +35,8 @@ use Rattle.controller.specs.Starting as starting
 use Rattle.controller.specs.Starting.{candidates, isPair, headEntry, nextEntry, oneVerdict, pairVerdict, oneTaken, pairTaken, withOne}
 use Rattle.controller.specs.Starting.{lastNumber, numberRules, withTwo, takeOne, takePair, takeFrom, startRules}
 use Rattle.controller.specs.Finishing as finishing
-use Rattle.controller.specs.Finishing.{cqOf, full, finishRules, finishRefusal, statusOf, completionOf, finishAnswer, finishedController}
-use Rattle.controller.specs.Finishing.{postedMemory}
+use Rattle.controller.specs.Finishing.{cqOf, full, finishRules, finishRefusal, statusOf, completionOf, finishedController}
+use Rattle.controller.specs.Finishing.{finishAnswer, postedMemory}
 use Rattle.controller.specs.Calls.{Call, createCq, createSq, tailWrite, headWrite, start, finish, perform}
 use Rattle.rules.proofs.Cases.{pick-cases, settle-cases}
 use Rattle.controller.proofs.Choosing.{Candidate, chosen}
@@ -224,7 +224,8 @@ module _ (c : Controller) (m : Memory) where
             → Made c m start (withOne c m (oneTaken c m id a (headEntry c m id) (oneVerdict c m id)) x)
         go NoneFree w = refuses start 13
         go (Tag t left) w =
-            settle-cases (Made c m start) _ _ _ (λ z. commands (takes-one id a t left (served (c .nextNumber) z (rw e)) e (one-taken (c .free) h w)))
+            settle-cases (Made c m start) _ _ _
+            (λ z. commands (takes-one id a t left (served (c .nextNumber) z (rw e)) e (one-taken (c .free) h w)))
             (λ n. refuses start _)
 
     pair-made : isPair id (sqAt c id .ring) m ≡ true → Made c m start (takePair c m id a)
@@ -235,7 +236,8 @@ module _ (c : Controller) (m : Memory) where
             → Made c m start (withTwo c m (pairTaken c m id a (headEntry c m id) (nextEntry c m id) (pairVerdict c m id)) x)
         go TooFew w = refuses start 13
         go (Tags t u left) w =
-            settle-cases (Made c m start) _ _ _ (λ z. commands (takes-pair id a t u left (served (c .nextNumber + 1) z (rw e (omega arith))) e (two-taken (c .free) h w)))
+            settle-cases (Made c m start) _ _ _
+            (λ z. commands (takes-pair id a t u left (served (c .nextNumber + 1) z (rw e (omega arith))) e (two-taken (c .free) h w)))
             (λ n. refuses start _)
 
   start-made : c .free < 2 ^ 64 → Made c m start (perform c m start)

@@ -28,12 +28,13 @@ use Rattle.controller.proofs.Outstanding.{out-set, taken-other, back-go
 use Rattle.controller.proofs.Unlinked.{unlinked-same}
 use Rattle.controller.proofs.Made.{takes-one, takes-pair, finishes, Commands, refused-leaves, done-leaves, changes, of-commands}
 use Rattle.controller.proofs.Made.{finishable, made, of-start}
+use Rattle.controller.proofs.Refusals.{finished-not}
 use Rattle.controller.proofs.Validity.{none-out, valid}
 use Rattle.controller.proofs.Links.{at-first, at-second}
 
 -- of commands with a mask of free tags, where n is the next number
 pub record Numbers (ks : List Command) (free n : ℕ) : Type 0 where
-  -- "every outstanding number lies below the next"
+  -- every outstanding number lies below the next
   pub below : (t : ℕ) → outstanding free t ≡ true → getD ks t noCommand .number < n
   -- "Two outstanding commands never bear the same number."
   pub distinct : (t u : ℕ) → outstanding free t ≡ true → outstanding free u ≡ true
@@ -49,7 +50,8 @@ taken-numbers ks {free} {t} {left} {n} {next} k many w e f h =
           (λ j d o. omega (arith, f, h .below j (was j d o)));
       distinct =
           set-ind ks t k noCommand
-          (λ j x. (u : ℕ) → outstanding left j ≡ true → outstanding left u ≡ true → x .number ≡ getD (set ks t k) u noCommand .number → j ≡ u) l
+          (λ j x. (u : ℕ) → outstanding left j ≡ true → outstanding left u ≡ true → x .number ≡ getD (set ks t k) u noCommand .number → j ≡ u)
+          l
           (set-ind ks t k noCommand (λ u y. outstanding left t ≡ true → outstanding left u ≡ true → k .number ≡ y .number → t ≡ u) l
           (λ o p q. refl) (λ u d o p q. absurd (omega (arith, h .below u (was u d p), q, e))))
           (λ j d. set-ind ks t k noCommand
@@ -145,26 +147,28 @@ to-last (fresh weighted word) = lit≤ tt
 to-last (after {c} r m call) = call-counted r m call .within (to-last r)
 
 -- "start its first command's": a start answers the next number, its first command bears it, and a pair's second half the one after it
+pub record Bears (c : Controller) (s : StartAnswer) (left : Controller) : Type 0 where
+  pub answered : s .number ≡ c .nextNumber
+  pub first : commandAt left (s .first) .number ≡ s .number
+  pub second : s .count ≡ 2 → commandAt left (s .second) .number ≡ s .number + 1
+
 pub start-number : {c : Controller} → Reachable c → (m : Memory) {s : StartAnswer} → perform c m start .answer ≡ started s
-    → (let d = perform c m start .controller in
-    (s .number ≡ c .nextNumber)
-    × (commandAt d (s .first) .number ≡ s .number)
-    × (s .count ≡ 2 → commandAt d (s .second) .number ≡ s .number + 1))
+    → Bears c s (perform c m start .controller)
 unfolding oneTaken pairTaken
 start-number {c} r m e =
     let many = valid r .commands-64 in
     let number : Command → ℕ = λ k. k .number in
-    of-start c m
-    (λ s d. (s .number ≡ c .nextNumber)
-    × (commandAt d (s .first) .number ≡ s .number)
-    × (s .count ≡ 2 → commandAt d (s .second) .number ≡ s .number + 1))
-    (λ id a t left s p w.
-    (refl, ap number (getD-set-same (c .commands) t _ noCommand (rw many (w .low))), λ two. absurd (omega arith)))
-    (λ id a t u left s p w. (
-      refl,
-      ap number (at-first (c .commands) _ _ many w refl refl refl refl refl),
-      λ two. ap number (at-second (c .commands) _ _ many w refl refl refl refl refl),
-    ))
+    of-start c m (Bears c)
+    (λ id a t left s p w. record {
+      answered = refl;
+      first = ap number (getD-set-same (c .commands) t _ noCommand (rw many (w .low)));
+      second = λ two. absurd (omega arith);
+    })
+    (λ id a t u left s p w. record {
+      answered = refl;
+      first = ap number (at-first (c .commands) _ _ many w refl refl refl refl refl);
+      second = λ two. ap number (at-second (c .commands) _ _ many w refl refl refl refl refl);
+    })
     (valid r .free-64) e
 
 -- "Finish reports it": a finish answers the number of its command, which was outstanding
@@ -173,14 +177,11 @@ pub finish-number : (c : Controller) (m : Memory) (tag status result : ℕ) {f :
     → (outstanding (c .free) tag ≡ true) × (f .number ≡ commandAt c tag .number)
 unfolding finishing.finish
 finish-number c m tag status result {f} =
-    settle-cases (λ (o : Outcome). o .answer ≡ finished f → (outstanding (c .free) tag ≡ true) × (f .number ≡ commandAt c tag .number)) _ _ _
-    (λ z e. (finishable c m tag status z .out, same e)) (λ z e. absurd (not-refused e))
+    settle-cases (λ (o : Outcome). o .answer ≡ finished f → (outstanding (c .free) tag ≡ true) × (f .number ≡ commandAt c tag .number))
+    _ _ _ (λ z e. (finishable c m tag status z .out, same e)) (λ z e. absurd (finished-not (sym e)))
   where
     same : {x y : FinishAnswer} → finished x ≡ finished y → y .number ≡ x .number
     same e = cc
-
-    not-refused : {n : ℕ} {x : FinishAnswer} → refused n ≡ finished x → ⊥
-    not-refused e = let z : _≡_ {A = ℕ} 0 1 = cc in omega arith
 
 -- ---- over a list of calls
 

@@ -32,7 +32,7 @@ done-not e = let z : _≡_ {A = ℕ} 0 1 = cc in omega arith
 started-not : {n : ℕ} {s : StartAnswer} → started s ≡ refused n → ⊥
 started-not e = let z : _≡_ {A = ℕ} 0 1 = cc in omega arith
 
-finished-not : {n : ℕ} {f : FinishAnswer} → finished f ≡ refused n → ⊥
+pub finished-not : {n : ℕ} {f : FinishAnswer} → finished f ≡ refused n → ⊥
 finished-not e = let z : _≡_ {A = ℕ} 0 1 = cc in omega arith
 
 pub refusal-leaves : {c : Controller} {m : Memory} {call : Call} {o : Outcome} {n : ℕ} → Made c m call o → o .answer ≡ refused n

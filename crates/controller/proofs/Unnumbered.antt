@@ -4,11 +4,9 @@ use mathlib.Core.Bool.{Bool, true, false, _&&_}
 use mathlib.Core.List.{List, [], _∷_, _++_, map}
 use mathlib.Core.Logic.{_⊎_, inl, inr, ⊎-elim}
 use mathlib.Core.Path.{_≡_, refl, sym, ap, ap₂, _∙_, fun-ext, subst}
-use native.Mathlib.Omega.{arith}
 use lib.Dec.{eqb, ltb}
 use lib.ListN.{length, getD, set, List·getD-map}
 use Rattle.rules.specs.Rules.{pick, firstMatch, settle}
-use Rattle.rules.proofs.Cases.{pick-cases, settle-cases}
 use Rattle.bits.specs.Bits.{someBelow}
 use Rattle.bits.specs.Tags.{givenBack, takenOne, takenTwo}
 use Rattle.bits.specs.declared.TakenOne.{TakenOne}
@@ -32,10 +30,10 @@ use Rattle.controller.specs.Rings.{someRing, shares, outside}
 use Rattle.controller.specs.Answers.{Answer, refused, done, started, finished, Outcome, outcome, refusing}
 use Rattle.controller.specs.Create as create
 use Rattle.controller.specs.Doorbell as doorbell
-use Rattle.controller.specs.Verdict.{uses, inUse}
+use Rattle.controller.specs.Verdict.{inUse}
 use Rattle.controller.specs.Starting as starting
-use Rattle.controller.specs.Starting.{candidateAt, candidates, isPair, passed, command, used, headEntry, nextEntry, oneVerdict, pairVerdict}
-use Rattle.controller.specs.Starting.{oneTaken, pairTaken, lastNumber, withNumbers, withOne, withTwo, takeOne, takePair, takeFrom}
+use Rattle.controller.specs.Starting.{candidateAt, candidates, isPair, passed, command, used, headEntry, nextEntry, oneVerdict}
+use Rattle.controller.specs.Starting.{pairVerdict, oneTaken, pairTaken, lastNumber, withNumbers, withOne, withTwo, takeOne, takePair, takeFrom}
 use Rattle.controller.specs.Finishing as finishing
 use Rattle.controller.specs.Finishing.{cqOf, callRules, postingRules, finishRefusal, statusOf, released, unlinked, posted}
 use Rattle.controller.specs.Finishing.{finishedController, completionOf, postedMemory, finishAnswer}
@@ -77,9 +75,6 @@ module _ (ks ls : List Command) (h : Same ks ls) where
   unfolding unlinked released
   unlinked-alike second status = go (eqb second 0)
     where
-      half : ℕ → Command
-      half t = released status (getD ks t noCommand)
-
       go : (b : Bool) → Same (pick b ks (set ks (second - 1) (released status (getD ks (second - 1) noCommand))))
           (pick b ls (set ls (second - 1) (released status (getD ls (second - 1) noCommand))))
       go true = h

@@ -21,12 +21,14 @@ use Rattle.ring.proofs.Exactly.{says-full}
 use Rattle.controller.specs.Controller.{Controller}
 use Rattle.controller.specs.State.{cqAt, commandAt}
 use Rattle.controller.specs.Finishing as finishing
-use Rattle.controller.specs.Finishing.{cqOf, full, finishRefusal, completionOf, statusOf, finishAnswer, finishedController, tailOf, postedMemory}
+use Rattle.controller.specs.Finishing.{cqOf, full, finishRefusal, completionOf, statusOf, finishedController, tailOf, postedMemory}
+use Rattle.controller.specs.Finishing.{finishAnswer}
 use Rattle.controller.specs.Answers.{FinishAnswer, Answer, refused, done, started, finished, numberOf, outcome, refusing}
 use Rattle.controller.specs.Calls.{Reachable, finish, perform}
 use Rattle.controller.specs.Demand.{History, ringOf, ringBytes, sizeOf, unreleased, bookHead}
 use Rattle.controller.proofs.Made.{finishable}
 use Rattle.controller.proofs.Validity.{valid}
+use Rattle.controller.proofs.Refusals.{finished-not}
 use Rattle.controller.proofs.Exactly.{NoFreeSlot, beforeFull, finish-refusal}
 use Rattle.controller.proofs.Written.{posts-to, fits, ring-posted, ring-kept}
 use Rattle.controller.proofs.Booked.{this-or-other}
@@ -95,9 +97,6 @@ module _ {c : Controller} (r : Reachable c) (m : Memory) (tag status result : �
 
 -- ---- what is still unread
 
-refused-no-slot : {n : ℕ} {x : FinishAnswer} → refused n ≡ finished x → ⊥
-refused-no-slot e = let z : _≡_ {A = ℕ} 0 1 = cc in omega arith
-
 -- an answer whose number is not 0 is that refusal
 refusal : (a : Answer) (n : ℕ) → numberOf a ≡ suc n → a ≡ refused (suc n)
 refusal (refused k) n e = ap refused e
@@ -143,8 +142,9 @@ module _ (h : History) where
         → {f : FinishAnswer} → perform (last h) m (finish tag status result) .answer ≡ finished f → f .slot ≡ unreadSlot j → ⊥
     never-unread m e a s =
         ⊎-elim
-        (λ z. not-tail (sym s ∙ same-slot (sym a ∙ finish-answer (reachable h) m tag status result z) ∙ ap (λ k. cqAt (last h) k .ring .tail) e))
-        (λ n. refused-no-slot (sym (ap (λ o. o .answer) (finish-refused (reachable h) m tag status result n)) ∙ a))
+        (λ z. not-tail (sym s ∙ same-slot (sym a ∙ finish-answer (reachable h) m tag status result z)
+        ∙ ap (λ k. cqAt (last h) k .ring .tail) e))
+        (λ n. finished-not (sym a ∙ ap (λ o. o .answer) (finish-refused (reachable h) m tag status result n)))
         (same-or-not (finishRefusal (last h) (length m) tag status) 0)
 
     -- the bytes of that slot, in a memory, are as the reader sees them

@@ -4,7 +4,7 @@ ghost use Rattle.le.specs.Memory.{Memory};
 ghost use Rattle.controller.specs.Answers.{numberOf};
 ghost use Rattle.controller.specs.Calls.{perform, createCq, createSq, tailWrite, headWrite, start as startCall, finish as finishCall};
 ghost use Rattle.controller.specs.State.{newRefusal, newController};
-ghost use Rattle.store.specs.Held.{held, Sound, Holds, Reached};
+ghost use Rattle.store.specs.Held.{held, Holds, Reached};
 ghost use Rattle.replay.specs.Replay.{replay};
 ghost use Rattle.rig.specs.Numbers.{startNumbers, finishNumbers, replayNumbers, noSqNumbers, sqNumbers, noCqNumbers, cqNumbers};
 ghost use Rattle.rig.specs.Numbers.{commandNumbers, bitOf, remainderNumber, arbiterNumbers};

@@ -281,8 +281,10 @@ module _ (w : List ℕ) (h : Sound w) where
       (withCommands c (set (c .commands) t k) (c .free) (c .arbiter))
   command-put t l k s d v f n x =
       holds
-      (command-stored w h (commandWords k) t l
-      ((0, lit< tt, refl), ((1, lit< tt, refl), ((2, lit< tt, refl), ((3, lit< tt, refl), ((4, lit< tt, refl), ((5, lit< tt, refl), tt)))))) (
+      (command-stored w h (commandWords k) t l (
+        (0, lit< tt, refl),
+        ((1, lit< tt, refl), ((2, lit< tt, refl), ((3, lit< tt, refl), ((4, lit< tt, refl), ((5, lit< tt, refl), tt))))),
+      ) (
         rw (limit-288 (t + 224 + 0) (omega arith) (omega arith)) s,
         (
           rw (limit-416 (t + 224 + 64) (omega arith) (omega arith)) d,

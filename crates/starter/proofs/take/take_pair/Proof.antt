@@ -80,7 +80,8 @@ returns-3 c =
       λ m h g.
           pair-started d m _ _ h g (found (tags n) ∙ n .before .first .given .1)
           (v .verdict-pair .ensures (used d (a .id) (a .e)) (used d (a .id) (a .f)) (v .before .in-use .ensures)) (p .pass .ensures .0)
-          (i .before .next-number .ensures) (i .if1 .left) (held (p .pass .last .0)) (held (j .put-command .last .0)) (held (k .put-command2 .last .0)) _
+          (i .before .next-number .ensures) (i .if1 .left)
+          (held (p .pass .last .0)) (held (j .put-command .last .0)) (held (k .put-command2 .last .0)) _
           (p .pass .ensures .1 .is) (j .put-command .ensures .is) (k .put-command2 .ensures .is) (c .leave .ensures .is),
     )
 
