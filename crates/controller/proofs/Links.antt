@@ -20,7 +20,7 @@ use Rattle.controller.specs.Starting.{oneTaken, pairTaken}
 use Rattle.controller.specs.Finishing.{unlinked, finishedController}
 use Rattle.controller.specs.Answers.{Outcome}
 use Rattle.controller.specs.Calls.{Call, finish, perform, Reachable, fresh, after}
-use Rattle.controller.proofs.Outstanding.{out-set, taken-out, taken-new, taken-other, back-gone, back-out}
+use Rattle.controller.proofs.Outstanding.{out-set, taken-out, taken-new, taken-other, back-gone, back-out, back-was}
 use Rattle.controller.proofs.Unlinked.{unlinked-sq, unlinked-second, unlinked-other, unlinked-first}
 use Rattle.controller.proofs.Made.{takes-one, takes-pair, finishes, Commands, refused-leaves, done-leaves, changes, of-commands}
 use Rattle.controller.proofs.Made.{made}
@@ -152,7 +152,7 @@ module _ (ks : List Command) (f tag status : ℕ) (n : length ks ≡ 64) (o : ou
   finish-linked : Linked ks f → Linked finished freed
   finish-linked l x p =
       let a : x ≡ tag → ⊥ = back-gone f tag (out-set f tag o .0) x p in
-      let q : outstanding f x ≡ true = sym (back-out f tag x a) ∙ p in
+      let q = back-was f tag o x p in
       record {
         up = λ t h.
             let d : second ≡ x + 1 → ⊥ = λ e. never t (unlinked-first ks second status n low x e) h in

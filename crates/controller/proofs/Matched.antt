@@ -16,7 +16,7 @@ use Rattle.controller.specs.Controller.{Controller}
 use Rattle.controller.specs.State.{noCommand, commandAt, outstanding, freshController}
 use Rattle.controller.specs.Valid.{Valid}
 use Rattle.controller.specs.Starting.{oneTaken, pairTaken}
-use Rattle.controller.specs.Finishing.{released, unlinked, finishedController}
+use Rattle.controller.specs.Finishing.{unlinked, finishedController}
 use Rattle.controller.specs.Answers.{FinishAnswer, finished, startsIn, Outcome}
 use Rattle.controller.specs.Calls.{Call, finish, perform, Reachable, fresh, after}
 use Rattle.controller.specs.Refusing.{Among}
@@ -24,8 +24,8 @@ use Rattle.controller.specs.Steps.{Given, Step, steps, final}
 use Rattle.controller.specs.Book.{update}
 use Rattle.controller.specs.Numbers.{noted, notes, finishedIn, numbersFinished}
 use Rattle.controller.proofs.Lists.{set-ind}
-use Rattle.controller.proofs.Outstanding.{out-set, taken-other, back-gone, back-out}
-use Rattle.controller.proofs.Unlinked.{unlinked-same}
+use Rattle.controller.proofs.Outstanding.{out-set, taken-other, back-gone, back-was}
+use Rattle.controller.proofs.Unlinked.{unlinked-number}
 use Rattle.controller.proofs.Made.{takes-one, takes-pair, finishes, Commands, refused-leaves, done-leaves, changes, of-commands}
 use Rattle.controller.proofs.Made.{made}
 use Rattle.controller.proofs.Validity.{none-out, valid}
@@ -45,10 +45,7 @@ taken-noted f ks {t = t} {left = left} k many w h =
 
 finished-noted : (f : ℕ → ℕ) (ks : List Command) (free tag second status : ℕ) → outstanding free tag ≡ true
     → Noted f ks free → Noted f (unlinked ks second status) (givenBack free tag)
-unfolding released
-finished-noted f ks free tag second status out h t o =
-    h t (sym (back-out free tag t (back-gone free tag (out-set free tag out .0) t o)) ∙ o)
-    ∙ sym (unlinked-same ks second status (λ k. k .number) (λ k. refl) t)
+finished-noted f ks free tag second status out h t o = h t (back-was free tag out t o) ∙ sym (unlinked-number ks second status t)
 
 abbrev NotedIn : (ℕ → ℕ) → Controller → Type 0
 NotedIn f c = Noted f (c .commands) (c .free)
@@ -101,22 +98,16 @@ taken-answered {ns} ks {t = t} {left = left} {n = n} k many w e f h =
 finished-answered : {ns : List ℕ} (ks : List Command) (free tag second status : ℕ) {n : ℕ} → outstanding free tag ≡ true
     → Numbers ks free n → Answered ns ks free n
     → Answered (getD ks tag noCommand .number ∷ ns) (unlinked ks second status) (givenBack free tag) n
-unfolding released
 finished-answered {ns} ks free tag second status out b h =
+    let same = unlinked-number ks second status in
     record {
-      low = λ k a. ⊎-elim (λ (e : k ≡ number tag). omega (arith, e, b .below tag out)) (h .low k) a;
+      low = λ k a. ⊎-elim (λ (e : k ≡ getD ks tag noCommand .number). omega (arith, e, b .below tag out)) (h .low k) a;
       gone = λ t o a.
+          let p = back-was free tag out t o in
           let d = back-gone free tag (out-set free tag out .0) t o in
-          let p = sym (back-out free tag t d) ∙ o in
           ⊎-elim (λ e. d (b .distinct t tag p out (sym (same t) ∙ e))) (λ x. h .gone t p (rw (same t) at x)) a;
       once = (h .gone tag out, h .once);
     }
-  where
-    number : ℕ → ℕ
-    number t = getD ks t noCommand .number
-
-    same : (t : ℕ) → getD (unlinked ks second status) t noCommand .number ≡ getD ks t noCommand .number
-    same = unlinked-same ks second status (λ k. k .number) (λ k. refl)
 
 abbrev AnsweredIn : List ℕ → Controller → Type 0
 AnsweredIn ns c = Answered ns (c .commands) (c .free) (c .nextNumber)

@@ -17,15 +17,15 @@ use Rattle.controller.specs.State.{noCommand, commandAt, outstanding, fr
 use Rattle.controller.specs.Valid.{Valid}
 use Rattle.controller.specs.Starting.{lastNumber, oneTaken, pairTaken}
 use Rattle.controller.specs.Finishing as finishing
-use Rattle.controller.specs.Finishing.{released, unlinked, finishedController}
+use Rattle.controller.specs.Finishing.{unlinked, finishedController}
 use Rattle.controller.specs.Answers.{StartAnswer, FinishAnswer, Answer, refused, done, started, finished, Outcome}
 use Rattle.controller.specs.Calls.{Call, start, finish, perform, Reachable, fresh, after}
 use Rattle.controller.specs.Steps.{Given, Step, steps, final}
 use Rattle.controller.specs.Steps as calls
 use Rattle.controller.specs.Numbers.{countFrom, numbersIn, numbersTaken}
 use Rattle.controller.proofs.Lists.{set-ind}
-use Rattle.controller.proofs.Outstanding.{out-set, taken-other, back-gone, back-out}
-use Rattle.controller.proofs.Unlinked.{unlinked-same}
+use Rattle.controller.proofs.Outstanding.{taken-other, back-was}
+use Rattle.controller.proofs.Unlinked.{unlinked-number}
 use Rattle.controller.proofs.Made.{takes-one, takes-pair, finishes, Commands, refused-leaves, done-leaves, changes, of-commands}
 use Rattle.controller.proofs.Made.{finishable, made, of-start}
 use Rattle.controller.proofs.Refusals.{finished-not}
@@ -69,18 +69,13 @@ taken-numbers ks {free} {t} {left} {n} {next} k many w e f h =
 -- a command is finished: its tag is free again, and every command keeps its number
 finished-numbers : (ks : List Command) (free tag second status : ℕ) {n : ℕ} → outstanding free tag ≡ true → Numbers ks free n
     → Numbers (unlinked ks second status) (givenBack free tag) n
-unfolding released
 finished-numbers ks free tag second status out h =
+    let same = unlinked-number ks second status in
+    let was = back-was free tag out in
     record {
       below = λ t o. rw (same t) (h .below t (was t o));
       distinct = λ t u o p e. h .distinct t u (was t o) (was u p) (sym (same t) ∙ e ∙ same u);
     }
-  where
-    same : (t : ℕ) → getD (unlinked ks second status) t noCommand .number ≡ getD ks t noCommand .number
-    same = unlinked-same ks second status (λ k. k .number) (λ k. refl)
-
-    was : (t : ℕ) → outstanding (givenBack free tag) t ≡ true → outstanding free t ≡ true
-    was t o = sym (back-out free tag t (back-gone free tag (out-set free tag out .0) t o)) ∙ o
 
 -- ---- every controller that came from a fresh one by calls
 

@@ -41,3 +41,7 @@ module _ (f n : ℕ) where
 
   pub back-out : (t : ℕ) → (t ≡ n → ⊥) → outstanding (givenBack f n) t ≡ outstanding f t
   back-out t d = out-same f (givenBack f n) t (back-other f n t d)
+
+  -- what is outstanding then was so before
+  pub back-was : outstanding f n ≡ true → (t : ℕ) → outstanding (givenBack f n) t ≡ true → outstanding f t ≡ true
+  back-was o t p = sym (back-out t (back-gone (out-set f n o .0) t p)) ∙ p

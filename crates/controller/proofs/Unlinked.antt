@@ -48,6 +48,10 @@ module _ (ks : List Command) (second status : ℕ) where
   unfolding released
   unlinked-second = unlinked-same (λ k. k .second) (λ k. refl)
 
+  pub unlinked-number : (t : ℕ) → getD (unlinked ks second status) t noCommand .number ≡ getD ks t noCommand .number
+  unfolding released
+  unlinked-number = unlinked-same (λ k. k .number) (λ k. refl)
+
   -- the second half alone is another than it was
   pub unlinked-other : (t : ℕ) → (second ≡ t + 1 → ⊥) → getD (unlinked ks second status) t noCommand ≡ getD ks t noCommand
   unfolding unlinked

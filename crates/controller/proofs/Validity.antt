@@ -36,7 +36,7 @@ use Rattle.controller.specs.Answers.{Outcome}
 use Rattle.controller.specs.Calls.{Call, Reachable, fresh, after}
 use Rattle.controller.proofs.Lists.{set-ind, set-all, set-keep, in-list, getD-same}
 use Rattle.rules.proofs.Cases.{pick-cases, match-to}
-use Rattle.controller.proofs.Outstanding.{out-set, taken-other, back-gone, back-out}
+use Rattle.controller.proofs.Outstanding.{out-set, taken-other, back-was}
 use Rattle.controller.proofs.Choosing.{Candidate}
 use Rattle.controller.proofs.Unlinked.{unlinked-length, unlinked-sq, unlinked-ok}
 use Rattle.controller.proofs.Made.{NewRing, takes-one, takes-pair, finishes, Made, refuses, marks, creates-cq, creates-sq}
@@ -289,14 +289,13 @@ valid-kept {c} v (commands (finishes tag status result r)) =
     let i = cqOf c tag in
     let s = commandAt c tag .second in
     let h = v .sq-cq _ (v .command-sq tag (r .out)) in
-    let low = out-set (c .free) tag (r .out) .0 in
     with-commands
     (with-cq v i (posted (cqAt c i)) (cq-below v h)
     (posted-fits (cqAt c i) (record { here = h; ring = v .cq-ok i h; phase-low = v .cq-phase i })))
     (unlinked (c .commands) s _) (givenBack (c .free) tag) (c .arbiter) (unlinked-length (c .commands) s _ ∙ v .commands-64)
     (back-fits (c .free) tag (v .free-64)) (unlinked-ok (c .commands) s _ (v .commands-64) (v .command-ok tag .second-low) (v .command-ok))
     (λ t o. rw (unlinked-sq (c .commands) s _ t)
-    (v .command-sq t (sym (back-out (c .free) tag t (back-gone (c .free) tag low t o)) ∙ o)))
+    (v .command-sq t (back-was (c .free) tag (r .out) t o)))
 
 pub valid : {c : Controller} → Reachable c → Valid c
 valid (fresh weighted word) = fresh-valid weighted word
