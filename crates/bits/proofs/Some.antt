@@ -6,6 +6,7 @@ use mathlib.Core.Path.{_≡_}
 use native.Mathlib.Omega.{arith}
 use borrow.Author.Tests.{lt-ltb, le-ltb, ltb-true, ltb-false}
 use Rattle.rules.proofs.Tests.{lt-or-ge, clash}
+use Rattle.rules.proofs.Exactly.{Says}
 use Rattle.bits.specs.Bits.{first, someBelow}
 use Rattle.bits.proofs.First.{first-none, first-hit, first-below}
 
@@ -28,3 +29,11 @@ module _ (n : ℕ) (p : ℕ → Bool) where
   pub none-some : someBelow n p ≡ false → (k : ℕ) → k < n → p k ≡ false
   unfolding someBelow
   none-some e k h = first-below p 0 n k (omega arith) (omega (arith, ltb-false _ n e))
+
+  -- the question in propositions: some number below n is as the test says
+  pub says-some : {P : ℕ → Type 0} → ((i : ℕ) → Says (p i) (P i)) → Says (someBelow n p) ((i : ℕ) × (i < n) × P i)
+  says-some s =
+      record {
+        yes = λ e. let w = some-which e in (w .0, w .1, s (w .0) .yes (w .2));
+        no = λ e w. s (w .0) .no (none-some e (w .0) (w .1)) (w .2);
+      }

@@ -45,16 +45,16 @@ pub record Account (x : CompletionQueue) (y : BookCq) (m : Memory) (vs : List �
   pub queue : x .ring .exists ≡ true → Queue x y m
   pub stands : standing vs ≡ placeOf y
 
--- the book and the controller, with the account of completion queue q
-pub record World (q : ℕ) (c : Controller) (b : Book) (m : Memory) (vs : List ℕ) : Type 0 where
+-- the book and the controller, with the account of completion queue q where P holds: that no later call deletes it
+pub record World (P : Type 0) (q : ℕ) (c : Controller) (b : Book) (m : Memory) (vs : List ℕ) : Type 0 where
   pub sqs : (i : ℕ) → b .sqs i ≡ bookSq (sqAt c i)
   pub commands : (t : ℕ) → b .commands t ≡ bookCommand (commandAt c t)
   pub cids : (t : ℕ) → commandAt c t .cid < 2 ^ 16
-  pub account : Account (cqAt c q) (b .cqs q) m vs
+  pub account : P → Account (cqAt c q) (b .cqs q) m vs
 
 -- what a call leaves
-abbrev pub Next : ℕ → Book → Memory → List ℕ → Call → Outcome → Type 0
-Next q b m vs call o = World q (o .controller) (enter b m call (o .answer)) (o .memory) (headsOn q vs call (o .answer))
+abbrev pub Next : Type 0 → ℕ → Book → Memory → List ℕ → Call → Outcome → Type 0
+Next P q b m vs call o = World P q (o .controller) (enter b m call (o .answer)) (o .memory) (headsOn q vs call (o .answer))
 
 -- the same store into the book and into the controller's list
 module _ {A B : Type 0} (g : A → B) (l : List A) (d : A) (f : ℕ → B) (k : ℕ) (x : A) (v : B) where
@@ -62,14 +62,14 @@ module _ {A B : Type 0} (g : A → B) (l : List A) (d : A) (f : ℕ → B) (k : 
   agree-set h e all = set-ind l k x d (λ i y. update f k v i ≡ g y) h (rw (eq-eqb k k refl) e) (λ i n. rw (ne-eqb i k n) (all i))
 
 -- a fresh controller and an empty book
-pub world-fresh : (weighted : Bool) (word q : ℕ) (m : Memory) → World q (freshController weighted word) empty m []
+pub world-fresh : {P : Type 0} (weighted : Bool) (word q : ℕ) (m : Memory) → World P q (freshController weighted word) empty m []
 world-fresh weighted word q m =
     record {
       sqs = λ i. ap bookSq (sym (getD-same 16 i noSq));
       commands = λ t. ap bookCommand (sym (getD-same 64 t noCommand));
       cids = λ t. omega (arith, ap (λ (k : Command). k .cid) (getD-same 64 t noCommand));
       account =
-          record {
+          λ p. record {
             unborn = λ e. refl;
             queue = λ e. absurd (clash e (ap (λ (x : CompletionQueue). x .ring .exists) (getD-same 16 q noCq)));
             stands = refl;
@@ -87,5 +87,10 @@ account-kept k a =
       stands = a .stands;
     }
 
-pub kept : {q : ℕ} {c : Controller} {b : Book} {m m′ : Memory} {vs : List ℕ} → Kept c q m m′ → World q c b m vs → World q c b m′ vs
-kept k w = record { sqs = w .sqs; commands = w .commands; cids = w .cids; account = account-kept k (w .account) }
+module _ {P : Type 0} {q : ℕ} {c : Controller} {b : Book} {m : Memory} {vs : List ℕ} (w : World P q c b m vs) where
+  pub kept : {m′ : Memory} → (P → Kept c q m m′) → World P q c b m′ vs
+  kept k = record { sqs = w .sqs; commands = w .commands; cids = w .cids; account = λ p. account-kept (k p) (w .account p) }
+
+  -- where more is known than P
+  pub known : {Q : Type 0} → (Q → P) → World Q q c b m vs
+  known f = record { sqs = w .sqs; commands = w .commands; cids = w .cids; account = λ z. w .account (f z) }

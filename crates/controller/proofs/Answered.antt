@@ -21,12 +21,13 @@ use Rattle.controller.specs.Controller.{Controller}
 use Rattle.controller.specs.State.{sqAt, withSq}
 use Rattle.controller.specs.Answers.{done, outcome, refusing}
 use Rattle.controller.specs.Create as create
+use Rattle.controller.specs.Delete as delete
 use Rattle.controller.specs.Doorbell as doorbell
 use Rattle.controller.specs.Starting as starting
 use Rattle.controller.specs.Starting.{candidates, isPair, headEntry, nextEntry, oneVerdict, pairVerdict, oneTaken, pairTaken, withOne}
 use Rattle.controller.specs.Starting.{numberRules, withTwo, takeOne, takePair, takeFrom, startRules}
 use Rattle.controller.specs.Finishing as finishing
-use Rattle.controller.specs.Calls.{Call, createCq, createSq, tailWrite, headWrite, start, finish, perform}
+use Rattle.controller.specs.Calls.{Call, createCq, createSq, deleteCq, deleteSq, tailWrite, headWrite, start, finish, perform}
 use Rattle.controller.specs.Refusing.{refusals, Among, leftBy, Answered}
 
 -- the number of a table is 0 or one of its rows'
@@ -66,14 +67,19 @@ module _ (c : Controller) (m : Memory) where
   unmarked n id v (inr (inr (inr e))) = absurd e
 
   pub answered : (call : Call) → Answered c m call (perform c m call)
-  unfolding create.createCq create.createCqRefusal create.createSq create.createSqRefusal doorbell.tailWrite doorbell.tailRefusal
-      doorbell.headWrite doorbell.headRefusal starting.start finishing.finish finishing.finishRefusal
+  unfolding create.createCq create.createCqRefusal create.createSq create.createSqRefusal delete.deleteCq delete.deleteCqRefusal
+      delete.deleteSq delete.deleteSqRefusal doorbell.tailWrite doorbell.tailRefusal doorbell.headWrite doorbell.headRefusal starting.start
+      finishing.finish finishing.finishRefusal
   answered (createCq id size base) =
       settle-cases (Answered c m (createCq id size base)) _ _ _ (λ z. inr refl)
       (λ z. inl (_, among (create.createCqRules c (length m) id size base) z, refl))
   answered (createSq id size base cq class) =
       settle-cases (Answered c m (createSq id size base cq class)) _ _ _ (λ z. inr refl)
       (λ z. inl (_, among (create.createSqRules c (length m) id size base cq class) z, refl))
+  answered (deleteCq id) =
+      settle-cases (Answered c m (deleteCq id)) _ _ _ (λ z. inr refl) (λ z. inl (_, among (delete.deleteCqRules c id) z, refl))
+  answered (deleteSq id) =
+      settle-cases (Answered c m (deleteSq id)) _ _ _ (λ z. inr refl) (λ z. inl (_, among (delete.deleteSqRules c id) z, refl))
   answered (tailWrite id v) =
       settle-cases (Answered c m (tailWrite id v)) _ _ _
       (λ z. pick-cases (Answered c m (tailWrite id v)) (doorbell.validTail (sqAt c id .ring) v)

@@ -18,17 +18,17 @@ use Rattle.controller.specs.declared.CompletionQueue.{CompletionQueue}
 use Rattle.controller.specs.declared.Command.{Command}
 use Rattle.controller.specs.Controller.{Controller}
 use Rattle.controller.specs.State.{noSq, noCq, sqAt, cqAt, withSq, withCq, withCommands, withHead, withTail, freshController}
-use Rattle.controller.specs.State.{withNextNumber}
+use Rattle.controller.specs.State.{noRing, withNextNumber}
 use Rattle.controller.specs.Rings.{RingTest, existing, someSq, someCq, someRing, shareByte, sharing, shares, endsPast, outside}
 use Rattle.controller.specs.Valid.{RingOk, Valid}
 use Rattle.controller.specs.Create.{newCq, newSq}
 use Rattle.controller.specs.Starting.{oneTaken, pairTaken}
 use Rattle.controller.specs.Finishing.{cqOf, finishedController, posted}
-use Rattle.controller.specs.Answers.{Outcome}
-use Rattle.controller.specs.Calls.{Call, Reachable, fresh, after}
+use Rattle.controller.specs.Answers.{done, Outcome, outcome}
+use Rattle.controller.specs.Calls.{Call, deleteCq, deleteSq, Reachable, fresh, after}
 use Rattle.controller.proofs.Lists.{set-same, getD-same}
 use Rattle.controller.proofs.Made.{takes-one, takes-pair, finishes, Made, refuses, marks, creates-cq, creates-sq, moves-tail}
-use Rattle.controller.proofs.Made.{moves-head, commands, made}
+use Rattle.controller.proofs.Made.{deletes-cq, deletes-sq, moves-head, commands, made}
 use Rattle.controller.proofs.Validity.{sq-below, cq-below, valid}
 
 -- ---- the rings of a controller, by kind and id
@@ -115,7 +115,7 @@ same-apart f g e h x y d =
     λ r s. r .exists ≡ true → s .exists ≡ true → Disjoint (r .base) (entryOf x * r .size) (s .base) (entryOf y * s .size) in
     subst⁻¹ (λ r. P r (still (g y))) (e x) (subst⁻¹ (P (still (f x))) (e y) (h x y d))
 
-same-ring : (x y : RingId) → (x ≡ y) ⊎ (x ≡ y → ⊥)
+pub same-ring : (x y : RingId) → (x ≡ y) ⊎ (x ≡ y → ⊥)
 same-ring (sq i) (sq j) = ⊎-elim (λ (e : i ≡ j). inl (ap sq e)) (λ (d : i ≡ j → ⊥). inr (λ e. d (cc))) (same-or-not i j)
 same-ring (cq i) (cq j) = ⊎-elim (λ (e : i ≡ j). inl (ap cq e)) (λ (d : i ≡ j → ⊥). inr (λ e. d (cc))) (same-or-not i j)
 same-ring (sq i) (cq j) = inr (λ e. let z : _≡_ {A = ℕ} 0 1 = cc in omega arith)
@@ -132,17 +132,52 @@ new-apart f g w r e o n h x y d =
     (λ (q : y ≡ w → ⊥). rw (o x p, o y q) (h x y d)) (same-ring y w))
     (same-ring x w)
 
+-- the ring at w is gone
+gone-apart : (f g : RingId → Ring) (w : RingId) → g w ≡ noRing → ((x : RingId) → (x ≡ w → ⊥) → g x ≡ f x) → Apart f → Apart g
+gone-apart f g w e o h x y d =
+    ⊎-elim (λ (p : x ≡ w). rw (p, e) (λ a b. absurd (true≢false (sym a))))
+    (λ (p : x ≡ w → ⊥). ⊎-elim (λ (q : y ≡ w). rw (q, e) (λ a b. absurd (true≢false (sym b))))
+    (λ (q : y ≡ w → ⊥). rw (o x p, o y q) (h x y d)) (same-ring y w))
+    (same-ring x w)
+
 some-bytes : (x : RingId) (n : ℕ) → 2 ≤ n → 0 < entryOf x * n
 some-bytes (sq i) n h = omega arith
 some-bytes (cq i) n h = omega arith
 
--- ---- what a call does to the rings: it moves heads and tails, or it adds one that is apart from all others
+-- ---- what a call does to the rings: it moves heads and tails, adds one that is apart from all others, or removes one
 
-pub data RingsMade (c d : Controller) : Type 0 where
-  still-rings : ((x : RingId) → still (ringAt d x) ≡ still (ringAt c x)) → RingsMade c d
+-- the controller without the queue of a ring, and the call that leaves it so
+abbrev pub without : Controller → RingId → Controller
+without c (sq i) = withSq c i noSq
+without c (cq i) = withCq c i noCq
+
+abbrev pub deletion : RingId → Call
+deletion (sq i) = deleteSq i
+deletion (cq i) = deleteCq i
+
+pub data Grown (c d : Controller) : Type 0 where
+  still-rings : ((x : RingId) → still (ringAt d x) ≡ still (ringAt c x)) → Grown c d
   adds-ring : (w : RingId) (r : Ring) → r .exists ≡ true → ringAt d w ≡ r → ((x : RingId) → (x ≡ w → ⊥) → ringAt d x ≡ ringAt c x)
       → ((x : RingId) → ringAt c x .exists ≡ true → Disjoint (r .base) (entryOf w * r .size) (ringAt c x .base) (bytesOf c x))
-      → RingsMade c d
+      → Grown c d
+
+pub data RingsMade (c : Controller) (m : Memory) : Call → Outcome → Type 0 where
+  grows : {call : Call} {o : Outcome} → Grown c (o .controller) → RingsMade c m call o
+  removes : (w : RingId) → ringAt (without c w) w ≡ noRing → RingsMade c m (deletion w) (outcome done (without c w) m)
+
+-- another ring is as it was
+module _ (c : Controller) (i : ℕ) where
+  other-sq : (q : SubmissionQueue) (x : RingId) → (x ≡ sq i → ⊥) → ringAt (withSq c i q) x ≡ ringAt c x
+  other-sq q (sq j) d = ap (λ x. x .ring) (getD-set-other (c .sqs) i j q noSq (λ e. d (ap sq e)))
+  other-sq q (cq j) d = refl
+
+  other-cq : (q : CompletionQueue) (x : RingId) → (x ≡ cq i → ⊥) → ringAt (withCq c i q) x ≡ ringAt c x
+  other-cq q (sq j) d = refl
+  other-cq q (cq j) d = ap (λ x. x .ring) (getD-set-other (c .cqs) i j q noCq (λ e. d (ap cq e)))
+
+pub others : (c : Controller) (w x : RingId) → (x ≡ w → ⊥) → ringAt (without c w) x ≡ ringAt c x
+others c (sq i) = other-sq c i noSq
+others c (cq i) = other-cq c i noCq
 
 module _ {c : Controller} (v : Valid c) where
   -- the new ring r at w shares no byte with another
@@ -154,35 +189,33 @@ module _ {c : Controller} (v : Valid c) where
       (ring-alone v (r .base) (entryOf w * r .size) e x h)
 
   adds-sq : (i : ℕ) (q : SubmissionQueue) → i < 16 → q .ring .exists ≡ true → 2 ≤ q .ring .size
-      → shares c (q .ring .base) (64 * q .ring .size) ≡ false → RingsMade c (withSq c i q)
+      → shares c (q .ring .base) (64 * q .ring .size) ≡ false → Grown c (withSq c i q)
   adds-sq i q l h s e =
-      adds-ring (sq i) (q .ring) h (ap (λ x. x .ring) (getD-set-same (c .sqs) i q noSq (rw (v .sqs-16) l))) others
+      adds-ring (sq i) (q .ring) h (ap (λ x. x .ring) (getD-set-same (c .sqs) i q noSq (rw (v .sqs-16) l))) (other-sq c i q)
       (alone (sq i) (q .ring) s e)
-    where
-      others : (x : RingId) → (x ≡ sq i → ⊥) → ringAt (withSq c i q) x ≡ ringAt c x
-      others (sq j) d = ap (λ x. x .ring) (getD-set-other (c .sqs) i j q noSq (λ e. d (ap sq e)))
-      others (cq j) d = refl
 
   adds-cq : (i : ℕ) (q : CompletionQueue) → i < 16 → q .ring .exists ≡ true → 2 ≤ q .ring .size
-      → shares c (q .ring .base) (16 * q .ring .size) ≡ false → RingsMade c (withCq c i q)
+      → shares c (q .ring .base) (16 * q .ring .size) ≡ false → Grown c (withCq c i q)
   adds-cq i q l h s e =
-      adds-ring (cq i) (q .ring) h (ap (λ x. x .ring) (getD-set-same (c .cqs) i q noCq (rw (v .cqs-16) l))) others
+      adds-ring (cq i) (q .ring) h (ap (λ x. x .ring) (getD-set-same (c .cqs) i q noCq (rw (v .cqs-16) l))) (other-cq c i q)
       (alone (cq i) (q .ring) s e)
-    where
-      others : (x : RingId) → (x ≡ cq i → ⊥) → ringAt (withCq c i q) x ≡ ringAt c x
-      others (sq j) d = refl
-      others (cq j) d = ap (λ x. x .ring) (getD-set-other (c .cqs) i j q noCq (λ e. d (ap cq e)))
+
+  pub sq-gone : (i : ℕ) → i < 16 → sqAt (withSq c i noSq) i ≡ noSq
+  sq-gone i l = getD-set-same (c .sqs) i noSq noSq (rw (v .sqs-16) l)
+
+  pub cq-gone : (i : ℕ) → i < 16 → cqAt (withCq c i noCq) i ≡ noCq
+  cq-gone i l = getD-set-same (c .cqs) i noCq noCq (rw (v .cqs-16) l)
 
 module _ (c : Controller) (i : ℕ) where
   -- a queue whose ring is the same but for its head and tail
-  sq-still : (q : SubmissionQueue) → still (q .ring) ≡ still (sqAt c i .ring) → RingsMade c (withSq c i q)
+  sq-still : (q : SubmissionQueue) → still (q .ring) ≡ still (sqAt c i .ring) → Grown c (withSq c i q)
   sq-still q e = still-rings same
     where
       same : (x : RingId) → still (ringAt (withSq c i q) x) ≡ still (ringAt c x)
       same (sq j) = set-same (c .sqs) i q noSq (λ x. still (x .ring)) e j
       same (cq j) = refl
 
-  cq-still : (q : CompletionQueue) → still (q .ring) ≡ still (cqAt c i .ring) → RingsMade c (withCq c i q)
+  cq-still : (q : CompletionQueue) → still (q .ring) ≡ still (cqAt c i .ring) → Grown c (withCq c i q)
   cq-still q e = still-rings same
     where
       same : (x : RingId) → still (ringAt (withCq c i q) x) ≡ still (ringAt c x)
@@ -190,32 +223,36 @@ module _ (c : Controller) (i : ℕ) where
       same (cq j) = set-same (c .cqs) i q noCq (λ x. still (x .ring)) e j
 
 -- the commands have no part in it
-with-commands : {c d : Controller} (ks : List Command) (free : ℕ) (a : Arbiter) → RingsMade c d → RingsMade c (withCommands d ks free a)
+with-commands : {c d : Controller} (ks : List Command) (free : ℕ) (a : Arbiter) → Grown c d → Grown c (withCommands d ks free a)
 with-commands ks free a (still-rings e) = still-rings e
 with-commands ks free a (adds-ring w r h e o n) = adds-ring w r h e o n
 
-with-number : {c d : Controller} (n : ℕ) → RingsMade c d → RingsMade c (withNextNumber d n)
+with-number : {c d : Controller} (n : ℕ) → Grown c d → Grown c (withNextNumber d n)
 with-number n (still-rings e) = still-rings e
 with-number n (adds-ring w r h e o k) = adds-ring w r h e o k
 
-pub of-rings : {c : Controller} {m : Memory} {call : Call} {o : Outcome} → Valid c → Made c m call o → RingsMade c (o .controller)
+pub of-rings : {c : Controller} {m : Memory} {call : Call} {o : Outcome} → Valid c → Made c m call o → RingsMade c m call o
 unfolding oneTaken pairTaken finishedController posted
-of-rings v (refuses call n) = still-rings (λ x. refl)
-of-rings {c} v (marks id x r e) = sq-still c id _ refl
-of-rings v (creates-cq id size base r) = adds-cq v id (newCq size base) (r .id-low) refl (r .ring .low) (r .ring .alone)
+of-rings v (refuses call n) = grows (still-rings (λ x. refl))
+of-rings {c} v (marks id x r e) = grows (sq-still c id _ refl)
+of-rings v (creates-cq id size base r) = grows (adds-cq v id (newCq size base) (r .id-low) refl (r .ring .low) (r .ring .alone))
 of-rings v (creates-sq id size base k class r) =
-    adds-sq v id (newSq size base k class) (r .id-low) refl (r .ring .low) (r .ring .alone)
-of-rings {c} v (moves-tail id x r e) = sq-still c id _ refl
-of-rings {c} v (moves-head id x r) = cq-still c id _ refl
-of-rings {c} v (commands (takes-one id a t left s e w)) = with-number _ (with-commands _ _ _ (sq-still c id _ refl))
-of-rings {c} v (commands (takes-pair id a t u left s e w)) = with-number _ (with-commands _ _ _ (sq-still c id _ refl))
-of-rings {c} v (commands (finishes tag status result r)) = with-commands _ _ _ (cq-still c (cqOf c tag) _ refl)
+    grows (adds-sq v id (newSq size base k class) (r .id-low) refl (r .ring .low) (r .ring .alone))
+of-rings v (deletes-cq id r) = removes (cq id) (ap (λ x. x .ring) (cq-gone v id (r .id-low)))
+of-rings v (deletes-sq id r) = removes (sq id) (ap (λ x. x .ring) (sq-gone v id (r .id-low)))
+of-rings {c} v (moves-tail id x r e) = grows (sq-still c id _ refl)
+of-rings {c} v (moves-head id x r) = grows (cq-still c id _ refl)
+of-rings {c} v (commands (takes-one id a t left s e w)) = grows (with-number _ (with-commands _ _ _ (sq-still c id _ refl)))
+of-rings {c} v (commands (takes-pair id a t u left s e w)) = grows (with-number _ (with-commands _ _ _ (sq-still c id _ refl)))
+of-rings {c} v (commands (finishes tag status result r)) = grows (with-commands _ _ _ (cq-still c (cqOf c tag) _ refl))
 
 -- ---- no two rings share a byte
 
-apart-kept : {c d : Controller} → RingsMade c d → Apart (ringAt c) → Apart (ringAt d)
-apart-kept {c} {d} (still-rings e) = same-apart (ringAt c) (ringAt d) e
-apart-kept {c} {d} (adds-ring w r h e o n) = new-apart (ringAt c) (ringAt d) w r e o n
+apart-kept : {c : Controller} {m : Memory} {call : Call} {o : Outcome} → RingsMade c m call o → Apart (ringAt c)
+    → Apart (ringAt (o .controller))
+apart-kept {c} {o = o} (grows (still-rings e)) = same-apart (ringAt c) (ringAt (o .controller)) e
+apart-kept {c} {o = o} (grows (adds-ring w r h e n p)) = new-apart (ringAt c) (ringAt (o .controller)) w r e n p
+apart-kept {c} (removes w e) = gone-apart (ringAt c) (ringAt (without c w)) w e (others c w)
 
 no-rings : (weighted : Bool) (word : ℕ) (x : RingId) → ringAt (freshController weighted word) x .exists ≡ true → ⊥
 no-rings weighted word (sq i) = rw (getD-same 16 i noSq) (λ e. true≢false (sym e))
@@ -227,8 +264,17 @@ pub apart : {c : Controller} → Reachable c → (x y : RingId) → (x ≡ y →
 apart (fresh weighted word) = λ x y d a b. absurd (no-rings weighted word x a)
 apart (after {c} r m call) = apart-kept (of-rings (valid r) (made c m (valid r .free-64) call)) (apart r)
 
--- a ring that exists stays
-pub ring-stays : {c d : Controller} → RingsMade c d → (x : RingId) → ringAt c x .exists ≡ true → ringAt d x .exists ≡ true
-ring-stays (still-rings e) x h = ap (λ (r : Ring). r .exists) (e x) ∙ h
-ring-stays (adds-ring w r h e o n) x y =
-    ⊎-elim (λ (p : x ≡ w). rw (p, e) h) (λ (p : x ≡ w → ⊥). rw (o x p) y) (same-ring x w)
+-- ---- a ring that exists stays, until its queue is deleted
+
+abbrev pub Here : Controller → RingId → Type 0
+Here c x = ringAt c x .exists ≡ true
+
+lasts : {c d : Controller} → Grown c d → (x : RingId) → Here c x → Here d x
+lasts (still-rings e) x h = ap (λ (r : Ring). r .exists) (e x) ∙ h
+lasts (adds-ring w r h e o n) x y = ⊎-elim (λ (p : x ≡ w). rw (p, e) h) (λ (p : x ≡ w → ⊥). rw (o x p) y) (same-ring x w)
+
+pub fate : {c : Controller} {m : Memory} {call : Call} {o : Outcome} → RingsMade c m call o → (x : RingId) → Here c x
+    → Here (o .controller) x ⊎ ((call ≡ deletion x) × (o ≡ outcome done (without c x) m))
+fate (grows g) x h = inl (lasts g x h)
+fate {c} (removes w e) x h =
+    ⊎-elim (λ (p : x ≡ w). inr (rw p refl, rw p refl)) (λ (d : x ≡ w → ⊥). inl (rw (others c w x d) h)) (same-ring x w)

@@ -80,7 +80,7 @@ module _ (ks : List Command) (second status : ℕ) where
 
 -- ---- the posting
 
-module _ (q : ℕ) {c : Controller} (b : Book) (m : Memory) (vs : List ℕ) (r : Reachable c) (w : World q c b m vs)
+module _ (q : ℕ) {c : Controller} (b : Book) (m : Memory) (vs : List ℕ) (r : Reachable c) (account : Account (cqAt c q) (b .cqs q) m vs)
     (inside : outside c (length m) ≡ false) (e : Completion) (within : Within e) where
   abbrev postedBook : ℕ → BookCq
   postedBook k = let y = b .cqs k in record { size = y .size; head = y .head; phase = y .phase; waiting = y .waiting ++ (e ∷ []) }
@@ -94,7 +94,7 @@ module _ (q : ℕ) {c : Controller} (b : Book) (m : Memory) (vs : List ℕ) (r :
   unfolding full posted
   post-this here free =
       let x = cqAt c q .ring in
-      let z = w .account .queue here in
+      let z = account .queue here in
       let room : length (b .cqs q .waiting) + 1 < x .size =
       omega (arith, waiting-length (z .phase), z .phase .room, eqb-false (distance (x .size) (x .head) (x .tail)) (x .size - 1) free) in
       account-this q (c .cqs) (b .cqs) (postedMemory c m q e) vs (posted (cqAt c q)) (postedBook q)
@@ -106,18 +106,18 @@ module _ (q : ℕ) {c : Controller} (b : Book) (m : Memory) (vs : List ℕ) (r :
           head-same = z .head-same;
           phase = rw (ring-posted r m inside e q here) (post (z .phase) e within room);
         };
-        stands = w .account .stands;
+        stands = account .stands;
       })
 
   post-other : (k : ℕ) → (k ≡ q → ⊥) → Posted k
   post-other k n here free =
       account-other q (c .cqs) (b .cqs) (postedMemory c m k e) vs (posted (cqAt c k)) (postedBook k) k n
-      (account-kept (ring-kept r m inside e k here q n) (w .account))
+      (account-kept (ring-kept r m inside e k here q n) account)
 
   post-any : (k : ℕ) → Posted k
   post-any k = this-or-other Posted q k post-this (post-other k)
 
-module _ (q : ℕ) {c : Controller} (b : Book) (m : Memory) (vs : List ℕ) (r : Reachable c) (w : World q c b m vs)
+module _ {P : Type 0} (q : ℕ) {c : Controller} (b : Book) (m : Memory) (vs : List ℕ) (r : Reachable c) (w : World P q c b m vs)
     (tag status result : ℕ) (bound : result < 2 ^ 32) (f : Finishable c (length m) tag status) where
   abbrev k : Command
   k = commandAt c tag
@@ -148,7 +148,7 @@ module _ (q : ℕ) {c : Controller} (b : Book) (m : Memory) (vs : List ℕ) (r :
         status = status-in (k .verdict) (valid r .command-ok tag .verdict-low);
       }
 
-  pub next-finish : Next q b m vs (finish tag status result)
+  pub next-finish : Next P q b m vs (finish tag status result)
       (outcome (finished (finishAnswer c tag)) (finishedController c tag (statusOf (k .verdict) status))
       (postedMemory c m id e))
   unfolding enter finishedController
@@ -161,5 +161,6 @@ module _ (q : ℕ) {c : Controller} (b : Book) (m : Memory) (vs : List ℕ) (r :
             fail-agrees (c .commands) (k .second) status′ (waits b id e) (valid r .commands-64) (valid r .command-ok tag .second-low)
             (w .commands);
         cids = unlinked-cids (c .commands) (k .second) status′ (w .cids);
-        account = rw (kept .1) (post-any q b m vs r w (f .inside) e within id (posts-to (valid r) tag (f .out)) (f .room));
+        account =
+            λ p. rw (kept .1) (post-any q b m vs r (w .account p) (f .inside) e within id (posts-to (valid r) tag (f .out)) (f .room));
       })

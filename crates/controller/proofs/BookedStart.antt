@@ -18,7 +18,7 @@ use Rattle.controller.specs.Book.{Book, update, enter}
 use Rattle.controller.proofs.Lists.{set-all}
 use Rattle.controller.proofs.Account.{bookSq, bookCommand, World, Next, agree-set}
 
-module _ (q : ℕ) (c : Controller) (b : Book) (m : Memory) (vs : List ℕ) (valid : Valid c) (w : World q c b m vs)
+module _ {P : Type 0} (q : ℕ) (c : Controller) (b : Book) (m : Memory) (vs : List ℕ) (valid : Valid c) (w : World P q c b m vs)
     (bytes : Bytes m) (id : ℕ) (a : Arbiter) (low : id < 16) (v : ℕ) where
   -- a CID has two bytes
   cid-in : (p : ℕ) → entryAt m (sqAt c id .ring) p .cid < 2 ^ 16
@@ -27,7 +27,7 @@ module _ (q : ℕ) (c : Controller) (b : Book) (m : Memory) (vs : List ℕ) (val
       let place = sqAt c id .ring .base + 64 * p in
       omega (arith, part-getD m place 64 2 (omega arith), part-getD m place 64 3 (omega arith), bytes (place + 2), bytes (place + 3))
 
-  pub next-one : (t left : ℕ) → t < 64 → Next q b m vs start (oneTaken c m id a (headEntry c m id) v t left)
+  pub next-one : (t left : ℕ) → t < 64 → Next P q b m vs start (oneTaken c m id a (headEntry c m id) v t left)
   unfolding oneTaken enter entryAt
   next-one t left h =
       let l : t < length (c .commands) = omega (arith, valid .commands-64) in
@@ -39,7 +39,7 @@ module _ (q : ℕ) (c : Controller) (b : Book) (m : Memory) (vs : List ℕ) (val
       }
 
   pub next-pair : (t u left : ℕ) → t < 64 → u < 64
-      → Next q b m vs start (pairTaken c m id a (headEntry c m id) (nextEntry c m id) v t u left)
+      → Next P q b m vs start (pairTaken c m id a (headEntry c m id) (nextEntry c m id) v t u left)
   unfolding pairTaken enter entryAt next
   next-pair t u left h h′ =
       let l : t < length (c .commands) = omega (arith, valid .commands-64) in

@@ -2,10 +2,11 @@
 -- nothing.
 use Prim.Native.Nat.{ℕ, _*_, _<_, _^_}
 use mathlib.Core.List.{List, [], _∷_, foldl}
-use mathlib.Core.Path.{_≡_, sym, ap, _∙_}
+use mathlib.Core.Path.{_≡_, refl, sym, ap, _∙_}
 use native.Mathlib.Nat.{mod-eq-of-lt}
 use native.Mathlib.Omega.{arith}
 use lib.ListN.{length}
+use lib.Seq.{getD-set-other}
 use borrow.Author.Tests.{le-ltb, lt-leb}
 use Rattle.rules.proofs.Tests.{in-range}
 use Rattle.rules.proofs.Tables.{settle-accepted}
@@ -14,22 +15,27 @@ use Rattle.ring.specs.Reader.{readSlots, readerRefusal, ringRead}
 use Rattle.ring.proofs.Phase.{counts, finds, reader-phase-in}
 use Rattle.ring.specs.declared.reader.Waiting.the-variants.{Count, Refused}
 use Rattle.controller.specs.Controller.{Controller}
-use Rattle.controller.specs.State.{cqAt, freshController}
+use Rattle.controller.specs.State.{noCq, cqAt, withCq, freshController}
+use Rattle.controller.specs.Create.{newCq}
+use Rattle.controller.specs.Starting.{oneTaken, pairTaken}
+use Rattle.controller.specs.Finishing.{cqOf, posted, finishedController}
 use Rattle.controller.specs.Answers.{Outcome}
 use Rattle.controller.specs.Calls.{Call, resultOf, Reachable, fresh, after, perform}
 use Rattle.controller.specs.Refusing.{Answered}
 use Rattle.controller.specs.Steps.{Given, steps, final}
 use Rattle.controller.specs.Valid.{RingOk}
 use Rattle.controller.specs.Book.{Book, empty}
-use Rattle.controller.specs.Demand.{booked, headsOn, heads, reader, Cleared, Clean, Typed, History, ringBytes, sizeOf, headWrites}
-use Rattle.controller.specs.Demand.{unreleased, bookHead, bookPhase}
+use Rattle.controller.specs.Demand.{booked, headsOn, heads, reader, Cleared, Keeps, Stays, Clean, Typed, History, ringBytes}
+use Rattle.controller.specs.Demand.{sizeOf, headWrites, unreleased, bookHead, bookPhase}
 use Rattle.controller.proofs.Made.{takes-one, takes-pair, finishes, Made, refuses, marks, creates-cq, creates-sq, moves-tail}
-use Rattle.controller.proofs.Made.{moves-head, commands, made}
+use Rattle.controller.proofs.Made.{deletes-cq, deletes-sq, moves-head, commands, made}
+use Rattle.controller.proofs.Lists.{set-keep, set-same}
 use Rattle.controller.proofs.Answered.{answered}
 use Rattle.controller.proofs.Steps.{reached}
-use Rattle.controller.proofs.Validity.{valid}
-use Rattle.controller.proofs.Account.{Queue, World, Next, world-fresh, kept}
-use Rattle.controller.proofs.Booked.{next-refused, next-marked, next-tail, next-create-sq, next-create-cq, next-head}
+use Rattle.controller.proofs.Validity.{CqHere, valid}
+use Rattle.controller.proofs.Account.{Queue, World, Next, world-fresh, kept, known}
+use Rattle.controller.proofs.Booked.{next-refused, next-marked, next-tail, next-create-sq, next-create-cq, next-head, next-delete-sq}
+use Rattle.controller.proofs.Booked.{next-delete-cq}
 use Rattle.controller.proofs.BookedStart.{next-one, next-pair}
 use Rattle.controller.proofs.BookedFinish.{next-finish}
 
@@ -40,28 +46,45 @@ demand1 = answered
 
 -- ---- over the calls
 
-module _ {q : ℕ} {c : Controller} {b : Book} {m : Memory} {vs : List ℕ} (r : Reachable c) (w : World q c b m vs) (bytes : Bytes m) where
-  -- each call keeps the book and the controller in agreement
-  next-call : {call : Call} {o : Outcome} → Made c m call o → resultOf call < 2 ^ 32 → Cleared q m c (o .controller) → Next q b m vs call o
-  next-call (refuses call n) t z = next-refused q c b m vs (valid r) w call n
-  next-call (marks id v g e) t z = next-marked q c b m vs (valid r) w id v
-  next-call (creates-cq id size base g) t z = next-create-cq q c b m vs (valid r) w id size base g z
-  next-call (creates-sq id size base cq class g) t z = next-create-sq q c b m vs (valid r) w id size base cq class (g .id-low)
-  next-call (moves-tail id v g e) t z = next-tail q c b m vs (valid r) w id v
-  next-call (moves-head id v g) t z = next-head q c b m vs (valid r) w id v g
-  next-call (commands (takes-one id a n left g e o)) t z = next-one q c b m vs (valid r) w bytes id a (g .candidate .0) _ n left (o .low)
-  next-call (commands (takes-pair id a n u left g e o)) t z =
-      next-pair q c b m vs (valid r) w bytes id a (g .candidate .0) _ n u left (o .first .low) (o .second .low)
-  next-call (commands (finishes tag status result g)) t z = next-finish q b m vs r w tag status result t g
+module _ {q : ℕ} {c : Controller} {b : Book} {m : Memory} {vs : List ℕ} (r : Reachable c) (bytes : Bytes m) where
+  -- each call keeps the book and the controller in agreement; P is about what comes after it
+  next-call : {P : Type 0} {call : Call} {o : Outcome} → Made c m call o → resultOf call < 2 ^ 32
+      → World (Keeps q c (o .controller) × P) q c b m vs → (Keeps q c (o .controller) × P → Cleared q m c (o .controller))
+      → Next P q b m vs call o
+  unfolding oneTaken pairTaken finishedController posted
+  next-call (refuses call n) t w z = next-refused q c b m vs (valid r) (known w (λ p. (λ h. h, p))) call n
+  next-call (marks id v g e) t w z = next-marked q c b m vs (valid r) (known w (λ p. (λ h. h, p))) id v
+  next-call (creates-cq id size base g) t w z =
+      let stays : Keeps q c (withCq c id (newCq size base)) =
+      set-keep (c .cqs) id (newCq size base) noCq CqHere (omega (arith, g .id-low, valid r .cqs-16)) refl q in
+      next-create-cq q c b m vs (valid r) (known w (λ p. (stays, p))) id size base g (λ p. z (stays, p))
+  next-call (creates-sq id size base cq class g) t w z =
+      next-create-sq q c b m vs (valid r) (known w (λ p. (λ h. h, p))) id size base cq class (g .id-low)
+  next-call (deletes-cq id g) t w z =
+      next-delete-cq q c b m vs (valid r) w id (g .id-low)
+      (λ n p. (λ h. rw (getD-set-other (c .cqs) id q noCq noCq (λ e. n (sym e))) h, p))
+  next-call (deletes-sq id g) t w z = next-delete-sq q c b m vs (valid r) (known w (λ p. (λ h. h, p))) id (g .id-low)
+  next-call (moves-tail id v g e) t w z = next-tail q c b m vs (valid r) (known w (λ p. (λ h. h, p))) id v
+  next-call (moves-head id v g) t w z =
+      next-head q c b m vs (valid r)
+      (known w (λ p. (λ h. set-same (c .cqs) id _ noCq (λ x. x .ring .exists) refl q ∙ h, p))) id v g
+  next-call (commands (takes-one id a n left g e o)) t w z =
+      next-one q c b m vs (valid r) (known w (λ p. (λ h. h, p))) bytes id a (g .candidate .0) _ n left (o .low)
+  next-call (commands (takes-pair id a n u left g e o)) t w z =
+      next-pair q c b m vs (valid r) (known w (λ p. (λ h. h, p))) bytes id a (g .candidate .0) _ n u left (o .first .low) (o .second .low)
+  next-call (commands (finishes tag status result g)) t w z =
+      next-finish q b m vs r
+      (known w (λ p. (λ h. set-same (c .cqs) (cqOf c tag) _ noCq (λ x. x .ring .exists) refl q ∙ h, p))) tag status result t g
 
 -- after the calls they agree
 all-calls : (q : ℕ) (gs : List Given) {c : Controller} {b : Book} {left : Memory} {vs : List ℕ} (seen : Memory)
-    → Reachable c → World q c b left vs → Typed gs → Clean q c left (steps c gs) seen
-    → World q (final c gs) (booked c b gs) seen (foldl (λ us s. headsOn q us (s .given .call) (s .outcome .answer)) vs (steps c gs))
-all-calls q [] seen r w t k = kept k w
+    → Reachable c → World (Stays q (steps c gs)) q c b left vs → Typed gs → Clean q c left (steps c gs) seen
+    → World (Unit {0}) q (final c gs) (booked c b gs) seen
+    (foldl (λ us s. headsOn q us (s .given .call) (s .outcome .answer)) vs (steps c gs))
+all-calls q [] seen r w t k = kept w (λ p. k)
 all-calls q (g ∷ gs) seen r w t k =
     all-calls q gs seen (after r (g .memory) (g .call))
-    (next-call r (kept (k .0) w) (t .0) (made _ (g .memory) (valid r .free-64) (g .call)) (t .1) (k .1)) (t .2) (k .2)
+    (next-call r (t .0) (made _ (g .memory) (valid r .free-64) (g .call)) (t .1) (kept w (λ p. k .0 p .0)) (λ p. k .0 p .1)) (t .2) (k .1)
 
 -- ---- of a history
 
@@ -72,18 +95,18 @@ module _ (h : History) where
   pub reachable : Reachable last
   reachable = reached (h .calls) (fresh (h .weighted) (h .word))
 
-  agrees : World (h .q) last (booked (freshController (h .weighted) (h .word)) empty (h .calls)) (h .seen) (headWrites h)
+  agrees : World (Unit {0}) (h .q) last (booked (freshController (h .weighted) (h .word)) empty (h .calls)) (h .seen) (headWrites h)
   agrees =
       all-calls (h .q) (h .calls) (h .seen) (fresh (h .weighted) (h .word)) (world-fresh (h .weighted) (h .word) (h .q) []) (h .typed)
       (h .clean)
 
   pub queue : Queue (cqAt last (h .q)) (booked (freshController (h .weighted) (h .word)) empty (h .calls) .cqs (h .q)) (h .seen)
-  queue = agrees .account .queue (h .exists)
+  queue = agrees .account tt .queue (h .exists)
 
   -- DEMAND 3, its first half: from the ring's bytes, its size and its accepted head writes alone, "each once, in order, field for field"
   pub demand3 : reader (ringBytes h) (sizeOf h) (headWrites h) ≡ unreleased h
   unfolding reader
-  demand3 = rw (agrees .account .stands, queue .head-same) (finds (queue .phase))
+  demand3 = rw (agrees .account tt .stands, queue .head-same) (finds (queue .phase))
 
   -- the completion reader refuses nothing here
   accepts : readerRefusal (length (ringBytes h)) (sizeOf h) (bookHead h) ≡ 0

@@ -12,9 +12,8 @@ use Rattle.rules.specs.Rules.{pick, Table, firstMatch, settle}
 use Rattle.rules.proofs.Tests.{lt-or-ge, clash, or-true, and-true}
 use Rattle.rules.proofs.Tables.{both, numbered, settle-refused}
 use Rattle.rules.proofs.Cases.{pick-cases}
-use Rattle.rules.proofs.Exactly.{Says, says-is, says-lt, says-eq, says-not, says-as, says-and, says-or, says-pick, says-outside}
+use Rattle.rules.proofs.Exactly.{Says, says-is, says-lt, says-eq, says-not, says-as, says-or, says-pick, says-outside}
 use Rattle.rules.proofs.Exactly.{says-iff, says-sure, Reasons, Decided, Matches, decided, NoneOf}
-use Rattle.bits.specs.Bits.{isSet}
 use Rattle.bits.specs.Tags.{freeCount, takenOne, takenTwo}
 use Rattle.bits.specs.declared.TakenOne.{TakenOne}
 use Rattle.bits.specs.declared.TakenOne.the-variants.{Tag, NoneFree}
@@ -36,6 +35,7 @@ use Rattle.controller.specs.Rings.{RingTest, existing, someSq, someCq, s
 use Rattle.controller.specs.Valid.{Valid}
 use Rattle.controller.specs.Answers.{numberOf, Outcome, refusing}
 use Rattle.controller.specs.Create as create
+use Rattle.controller.specs.Delete as delete
 use Rattle.controller.specs.Doorbell as doorbell
 use Rattle.controller.specs.Starting as starting
 use Rattle.controller.specs.Starting.{candidates, isPair, headEntry, nextEntry, oneVerdict, pairVerdict, oneTaken}
@@ -43,9 +43,11 @@ use Rattle.controller.specs.Starting.{pairTaken, lastNumber, numberRules
 use Rattle.controller.specs.Starting.{takeFrom, startRules}
 use Rattle.controller.specs.Finishing as finishing
 use Rattle.controller.specs.Finishing.{cqOf, full}
-use Rattle.controller.specs.Calls.{createCq, createSq, tailWrite, headWrite, start, finish, Reachable, perform}
+use Rattle.controller.specs.Calls.{createCq, createSq, deleteCq, deleteSq, tailWrite, headWrite, start, finish, Reachable, perform}
+use Rattle.controller.proofs.Outstanding.{Outstanding, says-out}
+use Rattle.controller.proofs.Deleting.{Busy, says-busy, Named, says-named}
 use Rattle.controller.proofs.Choosing.{NoCandidate, nobody-waits}
-use Rattle.controller.proofs.Made.{needs}
+use Rattle.controller.proofs.Made.{Mixed, needs}
 use Rattle.controller.proofs.Validity.{valid}
 use Rattle.controller.proofs.Links.{linked, first-half}
 use Rattle.controller.proofs.Apart as rings
@@ -144,7 +146,7 @@ createCqReasons c n id size base = (15 < id, 1) ∷ (cqAt c id .ring .exists ≡
 
 -- "the SQ names a CQ that does not exist; or SQ 0 a CQ other than 0; or another SQ the CQ 0"
 abbrev pub WrongCq : Controller → ℕ → ℕ → Type 0
-WrongCq c id cq = (cqAt c cq .ring .exists ≡ true → ⊥) ⊎ (((id ≡ 0) × (cq ≡ 0 → ⊥)) ⊎ ((id ≡ 0 → ⊥) × (cq ≡ 0)))
+WrongCq c id cq = (cqAt c cq .ring .exists ≡ true → ⊥) ⊎ Mixed id cq
 
 abbrev pub createSqReasons : Controller → ℕ → ℕ → ℕ → ℕ → ℕ → ℕ → Reasons
 createSqReasons c n id size base cq class =
@@ -201,6 +203,33 @@ module _ {c : Controller} (r : Reachable c) (m : Memory) where
       wrong =
           says-or (says-not (says-is (cqAt c cq .ring .exists)))
           (says-pick (eqb id 0) (says-eq id 0) (says-not (says-eq cq 0)) (says-eq cq 0))
+
+-- ---- deletions
+
+abbrev pub deleteSqReasons : Controller → ℕ → Reasons
+deleteSqReasons c id = (15 < id, 1) ∷ (id ≡ 0, 35) ∷ ((sqAt c id .ring .exists ≡ true → ⊥), 9) ∷ (Busy c id, 33) ∷ []
+
+abbrev pub deleteCqReasons : Controller → ℕ → Reasons
+deleteCqReasons c id = (15 < id, 1) ∷ (id ≡ 0, 35) ∷ ((cqAt c id .ring .exists ≡ true → ⊥), 9) ∷ (Named c id, 34) ∷ []
+
+module _ (c : Controller) (m : Memory) (id : ℕ) where
+  pub delete-sq : Decided (deleteSqReasons c id) (number (perform c m (deleteSq id)))
+  unfolding delete.deleteSq delete.deleteSqRefusal
+  delete-sq =
+      settled c m _ (delete.deleteSqRules c id) (deleteSqReasons c id) [] tt (
+        refl,
+        says-lt 15 id,
+        λ a. (refl, says-eq id 0, λ b. (refl, says-not (says-is (sqAt c id .ring .exists)), λ d. (refl, says-busy c id, λ e. tt))),
+      ) (λ o. refl)
+
+  pub delete-cq : Decided (deleteCqReasons c id) (number (perform c m (deleteCq id)))
+  unfolding delete.deleteCq delete.deleteCqRefusal
+  delete-cq =
+      settled c m _ (delete.deleteCqRules c id) (deleteCqReasons c id) [] tt (
+        refl,
+        says-lt 15 id,
+        λ a. (refl, says-eq id 0, λ b. (refl, says-not (says-is (cqAt c id .ring .exists)), λ d. (refl, says-named c id, λ e. tt))),
+      ) (λ o. refl)
 
 -- ---- doorbell writes
 
@@ -370,14 +399,6 @@ module _ {c : Controller} (r : Reachable c) (m : Memory) where
 
 -- ---- finish
 
-no-is : (b : Bool) → (b ≡ true → ⊥) → b ≡ false
-no-is true h = absurd (h refl)
-no-is false h = refl
-
--- the command with that tag is outstanding
-abbrev pub Outstanding : Controller → ℕ → Type 0
-Outstanding c tag = (tag < 64) × (isSet (c .free) tag ≡ false)
-
 -- an outstanding command has the command with that tag as its second half
 pub record FirstHalfOut (c : Controller) (tag : ℕ) : Type 0 where
   pub first : ℕ
@@ -395,12 +416,6 @@ beforeFull c n tag status =
 
 abbrev pub finishReasons : Controller → ℕ → ℕ → ℕ → Reasons
 finishReasons c n tag status = beforeFull c n tag status ++ ((NoFreeSlot (cqAt c (cqOf c tag) .ring), 17) ∷ [])
-
-pub says-out : (c : Controller) (tag : ℕ) → Says (outstanding (c .free) tag) (Outstanding c tag)
-unfolding outstanding
-says-out c tag =
-    says-as (says-and (says-lt tag 64) (says-not (says-is (isSet (c .free) tag))))
-    (λ h. (h .0, no-is _ (h .1))) (λ h. (h .0, λ e. clash e (h .1)))
 
 module _ {c : Controller} (r : Reachable c) (m : Memory) (tag status result : ℕ) where
   abbrev ring : Ring

@@ -60,7 +60,7 @@ abbrev pub low : List ℕ → Bool
 low [] = true
 low (b ∷ bs) = ltb b 256 && low bs
 
-low-bytes : (b : List ℕ) → low b ≡ true → Bytes b
+pub low-bytes : (b : List ℕ) → low b ≡ true → Bytes b
 low-bytes [] e i = lit< tt
 low-bytes (x ∷ b) e zero = ltb-true x 256 (and-true (ltb x 256) (low b) e .0)
 low-bytes (x ∷ b) e (suc i) = low-bytes b (and-true (ltb x 256) (low b) e .1) i
@@ -86,10 +86,10 @@ shared-typed {c} m (x ∷ xs) r b e =
 abbrev pub entry : ℕ → ℕ → ℕ → List ℕ
 entry opc fuse cid = opc ∷ fuse ∷ cid ∷ replicate 61 0
 
-abbrev silent : Call → Shared
+abbrev pub silent : Call → Shared
 silent x = record { place = 0; bytes = []; call = x }
 
-abbrev after-writing : ℕ → List ℕ → Call → Shared
+abbrev pub after-writing : ℕ → List ℕ → Call → Shared
 after-writing place bytes x = record { place = place; bytes = bytes; call = x }
 
 -- CQ 1 has 2 entries at 0, SQ 1 has 4 at 4,096, and 16 bytes behind that are the host's alone
@@ -155,41 +155,29 @@ unfolding memory calls seen settle isSet first count maskOf someBelow takenOne t
     finishing.finish arbiter.choice arbiter.byGroup arbiter.byWeight arbiter.byLevel arbiter.toppedUp arbiter.someWaits
     arbiter.someReady arbiter.levelTurn arbiter.ready turns.turn turns.nextAfter word.burstOf
 clean = (
-  λ e. no e,
-  λ e y. no y,
+  λ p. (λ e. no e, λ e y. no y),
   (
-    λ e. no e,
-    λ e y. clear,
+    λ p. (λ e. no e, λ e y. clear),
     (
-      λ e. refl,
-      λ e. no (sym e),
+      λ p. (λ e. refl, λ e. no (sym e)),
       (
-        λ e. refl,
-        λ e. no (sym e),
+        λ p. (λ e. refl, λ e. no (sym e)),
         (
-          λ e. refl,
-          λ e. no (sym e),
+          λ p. (λ e. refl, λ e. no (sym e)),
           (
-            λ e. refl,
-            λ e. no (sym e),
+            λ p. (λ e. refl, λ e. no (sym e)),
             (
-              λ e. refl,
-              λ e. no (sym e),
+              λ p. (λ e. refl, λ e. no (sym e)),
               (
-                λ e. refl,
-                λ e. no (sym e),
+                λ p. (λ e. refl, λ e. no (sym e)),
                 (
-                  λ e. refl,
-                  λ e. no (sym e),
+                  λ p. (λ e. refl, λ e. no (sym e)),
                   (
-                    λ e. refl,
-                    λ e. no (sym e),
+                    λ p. (λ e. refl, λ e. no (sym e)),
                     (
-                      λ e. refl,
-                      λ e. no (sym e),
+                      λ p. (λ e. refl, λ e. no (sym e)),
                       (
-                        λ e. refl,
-                        λ e. no (sym e),
+                        λ p. (λ e. refl, λ e. no (sym e)),
                         λ e. refl,
                       ),
                     ),

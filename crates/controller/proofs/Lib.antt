@@ -1,5 +1,6 @@
 pub mod Lists
 pub mod Outstanding
+pub mod Deleting
 pub mod Choosing
 pub mod Classes
 pub mod Made
@@ -17,6 +18,7 @@ pub mod Unnumbered
 pub mod Apart
 pub mod Answered
 pub mod Exactly
+pub mod Deletions
 pub mod Verdicts
 pub mod Written
 pub mod Account
@@ -26,9 +28,11 @@ pub mod BookedFinish
 pub mod Demand
 pub mod Unread
 pub mod Doorbells
+pub mod Lives
 pub mod Undisturbed
 pub mod ThreePasses
 pub mod HostWrites
+pub mod TwoLives
 pub mod LastNumber
 pub mod Reaches
 pub mod Settled

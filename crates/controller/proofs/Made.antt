@@ -1,14 +1,17 @@
 -- What a call comes to, by cases: a refusal, or what the call does, with all that is then known. Assumes nothing.
 use Prim.Native.Nat.{ℕ, _+_, _*_, _%_, _^_, _≤_, _<_}
-use mathlib.Core.Bool.{true, false}
+use mathlib.Core.Bool.{true, false, not}
 use mathlib.Core.List.{List}
+use mathlib.Core.Logic.{_⊎_}
 use mathlib.Core.Path.{_≡_, refl, subst}
 use native.Mathlib.Omega.{arith}
+use lib.Dec.{eqb}
 use lib.ListN.{length}
-use borrow.Author.Tests.{ltb-false, eqb-true}
+use borrow.Author.Tests.{ltb-false, eqb-true, eqb-false}
 use Rattle.rules.specs.Rules.{pick, firstMatch}
 use Rattle.rules.proofs.Tests.{or-false, not-no, range}
 use Rattle.rules.proofs.Tables.{Unapplied, passed}
+use Rattle.rules.proofs.Exactly.{says-eq, says-not, says-pick}
 use Rattle.bits.specs.Tags.{takenOne, takenTwo}
 use Rattle.bits.specs.declared.TakenOne.{TakenOne}
 use Rattle.bits.specs.declared.TakenOne.the-variants.{Tag, NoneFree}
@@ -23,11 +26,13 @@ use Rattle.arbiter.specs.declared.Chosen.the-variants.{Queue, Nobody}
 use Rattle.controller.specs.Controller.{Controller}
 use Rattle.controller.specs.declared.SubmissionQueue.{SubmissionQueue}
 use Rattle.controller.specs.declared.CompletionQueue.{CompletionQueue}
-use Rattle.controller.specs.State.{sqAt, cqAt, commandAt, outstanding, withQueues, withSq, withCq}
+use Rattle.controller.specs.State.{noSq, noCq, sqAt, cqAt, commandAt, outstanding, withQueues, withSq, withCq}
 use Rattle.controller.specs.Rings.{shares, outside}
 use Rattle.controller.specs.Answers.{StartAnswer, Answer, refused, done, started, finished, Outcome, outcome}
 use Rattle.controller.specs.Create as create
 use Rattle.controller.specs.Create.{ringRules, createCqRules, createSqRules, createCqRefusal, createSqRefusal, newCq, newSq}
+use Rattle.controller.specs.Delete as delete
+use Rattle.controller.specs.Delete.{busy, named, deleteSqRules, deleteCqRules, deleteSqRefusal, deleteCqRefusal}
 use Rattle.controller.specs.Doorbell as doorbell
 use Rattle.controller.specs.Doorbell.{validTail, validHead, tailRules, tailRefusal, tailMoved, mark, headRules, headRefusal}
 use Rattle.controller.specs.Doorbell.{headMoved}
@@ -37,7 +42,7 @@ use Rattle.controller.specs.Starting.{lastNumber, numberRules, withTwo, 
 use Rattle.controller.specs.Finishing as finishing
 use Rattle.controller.specs.Finishing.{cqOf, full, finishRules, finishRefusal, statusOf, completionOf, finishedController}
 use Rattle.controller.specs.Finishing.{finishAnswer, postedMemory}
-use Rattle.controller.specs.Calls.{Call, createCq, createSq, tailWrite, headWrite, start, finish, perform}
+use Rattle.controller.specs.Calls.{Call, createCq, createSq, deleteCq, deleteSq, tailWrite, headWrite, start, finish, perform}
 use Rattle.rules.proofs.Cases.{pick-cases, settle-cases}
 use Rattle.controller.proofs.Choosing.{Candidate, chosen}
 
@@ -56,12 +61,30 @@ pub record NewCq (c : Controller) (n id size base : ℕ) : Type 0 where
   pub absent : cqAt c id .ring .exists ≡ false
   pub ring : NewRing c n 16 size base
 
+-- "SQ 0 a CQ other than 0; or another SQ the CQ 0"
+abbrev pub Mixed : ℕ → ℕ → Type 0
+Mixed id cq = ((id ≡ 0) × (cq ≡ 0 → ⊥)) ⊎ ((id ≡ 0 → ⊥) × (cq ≡ 0))
+
 pub record NewSq (c : Controller) (n id size base cq class : ℕ) : Type 0 where
   pub id-low : id < 16
   pub absent : sqAt c id .ring .exists ≡ false
   pub class-low : class ≤ 3
   pub cq-here : cqAt c cq .ring .exists ≡ true
+  pub unmixed : Mixed id cq → ⊥
   pub ring : NewRing c n 64 size base
+
+-- a queue that is deleted: it exists and is not an Admin one
+pub record IdleSq (c : Controller) (id : ℕ) : Type 0 where
+  pub id-low : id < 16
+  pub not-admin : id ≡ 0 → ⊥
+  pub here : sqAt c id .ring .exists ≡ true
+  pub idle : busy c id ≡ false
+
+pub record UnnamedCq (c : Controller) (id : ℕ) : Type 0 where
+  pub id-low : id < 16
+  pub not-admin : id ≡ 0 → ⊥
+  pub here : cqAt c id .ring .exists ≡ true
+  pub unnamed : named c id ≡ false
 
 -- the queue of a doorbell write
 pub record TakesTail (c : Controller) (id : ℕ) : Type 0 where
@@ -115,6 +138,8 @@ pub data Made (c : Controller) (m : Memory) : Call → Outcome → Type 0 where
       → Made c m (createCq id size base) (outcome done (withCq c id (newCq size base)) m)
   creates-sq : (id size base cq class : ℕ) → NewSq c (length m) id size base cq class
       → Made c m (createSq id size base cq class) (outcome done (withSq c id (newSq size base cq class)) m)
+  deletes-cq : (id : ℕ) → UnnamedCq c id → Made c m (deleteCq id) (outcome done (withCq c id noCq) m)
+  deletes-sq : (id : ℕ) → IdleSq c id → Made c m (deleteSq id) (outcome done (withSq c id noSq) m)
   moves-tail : (id v : ℕ) → TakesTail c id → validTail (sqAt c id .ring) v ≡ true
       → Made c m (tailWrite id v) (outcome done (withSq c id (tailMoved (sqAt c id) v)) m)
   moves-head : (id v : ℕ) → TakesHead c id v
@@ -133,6 +158,8 @@ of-commands (refuses call n) = refused-leaves call n _
 of-commands (marks id v r e) = refused-leaves _ 10 _
 of-commands (creates-cq id size base r) = done-leaves _ _ _
 of-commands (creates-sq id size base cq class r) = done-leaves _ _ _
+of-commands (deletes-cq id r) = done-leaves _ _ _
+of-commands (deletes-sq id r) = done-leaves _ _ _
 of-commands (moves-tail id v r e) = done-leaves _ _ _
 of-commands (moves-head id v r) = done-leaves _ _ _
 of-commands (commands w) = changes w
@@ -167,7 +194,32 @@ module _ (c : Controller) where
         absent = p .1 .0;
         class-low = ltb-false 3 class (p .1 .1 .0);
         cq-here = not-no _ (or-false _ _ (p .1 .1 .1 .0) .0);
+        unmixed =
+            says-pick (eqb id 0) (says-eq id 0) (says-not (says-eq cq 0)) (says-eq cq 0) .no
+            (or-false (not (cqAt c cq .ring .exists)) _ (p .1 .1 .1 .0) .1);
         ring = new-ring c n 64 size base (p .1 .1 .1 .1);
+      }
+
+  pub idle-sq : (id : ℕ) → deleteSqRefusal c id ≡ 0 → IdleSq c id
+  unfolding deleteSqRefusal
+  idle-sq id z =
+      let p = passed (deleteSqRules c id) tt z in
+      record {
+        id-low = omega (arith, ltb-false 15 id (p .0));
+        not-admin = eqb-false id 0 (p .1 .0);
+        here = not-no _ (p .1 .1 .0);
+        idle = p .1 .1 .1 .0;
+      }
+
+  pub unnamed-cq : (id : ℕ) → deleteCqRefusal c id ≡ 0 → UnnamedCq c id
+  unfolding deleteCqRefusal
+  unnamed-cq id z =
+      let p = passed (deleteCqRules c id) tt z in
+      record {
+        id-low = omega (arith, ltb-false 15 id (p .0));
+        not-admin = eqb-false id 0 (p .1 .0);
+        here = not-no _ (p .1 .1 .0);
+        unnamed = p .1 .1 .1 .0;
       }
 
   pub takes-tail : (id : ℕ) → tailRefusal c id ≡ 0 → TakesTail c id
@@ -195,6 +247,15 @@ module _ (c : Controller) (m : Memory) where
       settle-cases (Made c m (createSq id size base cq class)) _ _ _
       (λ z. creates-sq id size base cq class (new-sq c (length m) id size base cq class z))
       (λ n. refuses (createSq id size base cq class) _)
+
+  cq-deleted : (id : ℕ) → Made c m (deleteCq id) (perform c m (deleteCq id))
+  unfolding delete.deleteCq
+  cq-deleted id =
+      settle-cases (Made c m (deleteCq id)) _ _ _ (λ z. deletes-cq id (unnamed-cq c id z)) (λ n. refuses (deleteCq id) _)
+
+  sq-deleted : (id : ℕ) → Made c m (deleteSq id) (perform c m (deleteSq id))
+  unfolding delete.deleteSq
+  sq-deleted id = settle-cases (Made c m (deleteSq id)) _ _ _ (λ z. deletes-sq id (idle-sq c id z)) (λ n. refuses (deleteSq id) _)
 
   tail-made : (id v : ℕ) → Made c m (tailWrite id v) (perform c m (tailWrite id v))
   unfolding doorbell.tailWrite
@@ -275,6 +336,8 @@ module _ (c : Controller) (m : Memory) where
   pub made : c .free < 2 ^ 64 → (call : Call) → Made c m call (perform c m call)
   made h (createCq id size base) = cq-made id size base
   made h (createSq id size base cq class) = sq-made id size base cq class
+  made h (deleteCq id) = cq-deleted id
+  made h (deleteSq id) = sq-deleted id
   made h (tailWrite id v) = tail-made id v
   made h (headWrite id v) = head-made id v
   made h start = start-made h

@@ -1,14 +1,30 @@
--- Which tags are outstanding once a tag is taken, and once one is given back. Assumes nothing.
+-- Which tags are outstanding: in propositions, once a tag is taken, and once one is given back. Assumes nothing.
 use Prim.Native.Nat.{ℕ, _<_}
 use mathlib.Core.Bool.{Bool, true, false, not, _&&_}
-use mathlib.Core.Path.{_≡_, sym, ap, _∙_}
+use mathlib.Core.Path.{_≡_, refl, sym, ap, _∙_}
 use lib.Dec.{ltb}
 use borrow.Author.Tests.{ltb-true, lt-ltb}
 use Rattle.rules.proofs.Tests.{and-true, not-yes, clash}
+use Rattle.rules.proofs.Exactly.{Says, says-is, says-lt, says-not, says-and, says-as}
 use Rattle.bits.specs.Bits.{isSet}
 use Rattle.bits.specs.Tags.{givenBack}
 use Rattle.bits.proofs.Tags.{OneTaken, back-set, back-other}
+use Rattle.controller.specs.Controller.{Controller}
 use Rattle.controller.specs.State.{outstanding}
+
+-- the command with that tag is outstanding
+abbrev pub Outstanding : Controller → ℕ → Type 0
+Outstanding c tag = (tag < 64) × (isSet (c .free) tag ≡ false)
+
+no-is : (b : Bool) → (b ≡ true → ⊥) → b ≡ false
+no-is true h = absurd (h refl)
+no-is false h = refl
+
+pub says-out : (c : Controller) (tag : ℕ) → Says (outstanding (c .free) tag) (Outstanding c tag)
+unfolding outstanding
+says-out c tag =
+    says-as (says-and (says-lt tag 64) (says-not (says-is (isSet (c .free) tag))))
+    (λ h. (h .0, no-is _ (h .1))) (λ h. (h .0, λ e. clash e (h .1)))
 
 module _ (f t : ℕ) where
   pub out-set : outstanding f t ≡ true → (t < 64) × (isSet f t ≡ false)

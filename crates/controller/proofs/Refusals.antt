@@ -11,7 +11,7 @@ use Rattle.controller.specs.Starting.{oneTaken, pairTaken}
 use Rattle.controller.specs.Answers.{StartAnswer, FinishAnswer, refused, done, started, finished, Outcome}
 use Rattle.controller.specs.Calls.{Call, tailWrite}
 use Rattle.controller.proofs.Made.{takes-one, takes-pair, finishes, Made, refuses, marks, creates-cq, creates-sq, moves-tail}
-use Rattle.controller.proofs.Made.{moves-head, commands}
+use Rattle.controller.proofs.Made.{deletes-cq, deletes-sq, moves-head, commands}
 
 -- a tail write that is refused with 10 leaves the controller with its queue marked
 pub record Marked (c : Controller) (call : Call) (n : ℕ) (left : Controller) : Type 0 where
@@ -42,6 +42,8 @@ refusal-leaves (refuses call k) e = (inl refl, refl)
 refusal-leaves (marks id v r b) e = (inr (record { id = id; value = v; tail = refl; ten = ten e; is = refl }), refl)
 refusal-leaves (creates-cq id size base r) e = absurd (done-not e)
 refusal-leaves (creates-sq id size base cq class r) e = absurd (done-not e)
+refusal-leaves (deletes-cq id r) e = absurd (done-not e)
+refusal-leaves (deletes-sq id r) e = absurd (done-not e)
 refusal-leaves (moves-tail id v r b) e = absurd (done-not e)
 refusal-leaves (moves-head id v r) e = absurd (done-not e)
 refusal-leaves (commands (takes-one id a t left s p x)) e = absurd (started-not e)

@@ -92,7 +92,7 @@ clear (suc (suc i)) h = absurd (omega arith)
 -- a history of real calls
 unfoldable pub example : History
 unfolding memory calls create.createCqRefusal shares someRing someBelow first
-example = undisturbed false 0 0 2 0 memory bytes refl clear calls refl
+example = undisturbed false 0 [] tt 0 2 0 memory bytes refl clear calls refl refl
 
 -- what is answered, what the ring holds after it, and what the reader finds: the last entry alone, in slot 0 with tag 0
 pub three-passes : (answers (freshController false 0) memory (createCq 0 2 0 ∷ calls) ≡ called)

@@ -29,15 +29,18 @@ use Rattle.controller.specs.State.{withNextNumber}
 use Rattle.controller.specs.Rings.{someRing, shares, outside}
 use Rattle.controller.specs.Answers.{Answer, refused, done, started, finished, Outcome, outcome, refusing}
 use Rattle.controller.specs.Create as create
+use Rattle.controller.specs.Delete as delete
+use Rattle.controller.specs.Delete.{busy}
 use Rattle.controller.specs.Doorbell as doorbell
 use Rattle.controller.specs.Verdict.{inUse}
 use Rattle.controller.specs.Starting as starting
 use Rattle.controller.specs.Starting.{candidateAt, candidates, isPair, passed, command, used, headEntry, nextEntry, oneVerdict}
-use Rattle.controller.specs.Starting.{pairVerdict, oneTaken, pairTaken, lastNumber, withNumbers, withOne, withTwo, takeOne, takePair, takeFrom}
+use Rattle.controller.specs.Starting.{pairVerdict, oneTaken, pairTaken, lastNumber, withNumbers, withOne, withTwo, takeOne}
+use Rattle.controller.specs.Starting.{takePair, takeFrom}
 use Rattle.controller.specs.Finishing as finishing
 use Rattle.controller.specs.Finishing.{cqOf, callRules, postingRules, finishRefusal, statusOf, released, unlinked, posted}
 use Rattle.controller.specs.Finishing.{finishedController, completionOf, postedMemory, finishAnswer}
-use Rattle.controller.specs.Calls.{Call, createCq, createSq, tailWrite, headWrite, start, finish, perform}
+use Rattle.controller.specs.Calls.{Call, createCq, createSq, deleteCq, deleteSq, tailWrite, headWrite, start, finish, perform}
 use Rattle.controller.specs.Steps.{Given, Step, made, steps}
 use Rattle.controller.specs.Numbers.{unnumbered, unnumberedController, unnumberedAnswer, unnumberedOutcome}
 
@@ -231,13 +234,28 @@ module _ (c : Controller) (ks : List Command) (n : ℕ) (h : Same (c .commands) 
         subst (λ k. AlikeOr32 (perform c m (finish tag status result)) (settle k (refusing d m) (accepted d))) refusal-same
         (settle-alike (finishRefusal c (length m) tag status) (accepted c) (accepted d) (both-alike posted-alike))
 
+  -- ---- deletions: 33 looks at the commands
+
+  busy-same : (id : ℕ) → busy c id ≡ busy d id
+  unfolding busy
+  busy-same id =
+      ap (someBelow 64) (fun-ext (λ t. ap (λ a. outstanding (c .free) t && eqb a id)
+      (field-same (c .commands) ks h (λ k. k .sq) (λ k. refl) t)))
+
+  delete-sq-alike : (id : ℕ) → AlikeOr32 (perform c m (deleteSq id)) (perform d m (deleteSq id))
+  unfolding delete.deleteSq delete.deleteSqRefusal
+  delete-sq-alike id = rw (← busy-same id) (settle-alike _ _ _ (both-alike (queues-alike done _ _)))
+
   -- ---- every call
 
   call-alike : (call : Call) → AlikeOr32 (perform c m call) (perform d m call)
-  unfolding create.createCq create.createSq create.createCqRefusal create.createSqRefusal shares someRing doorbell.tailWrite
-      doorbell.tailRefusal doorbell.headWrite doorbell.headRefusal starting.start outside candidates candidateAt
+  unfolding create.createCq create.createSq create.createCqRefusal create.createSqRefusal shares someRing delete.deleteCq
+      delete.deleteCqRefusal delete.named doorbell.tailWrite doorbell.tailRefusal doorbell.headWrite doorbell.headRefusal starting.start
+      outside candidates candidateAt
   call-alike (createCq id size base) = settle-alike _ _ _ (both-alike (queues-alike done _ _))
   call-alike (createSq id size base cq class) = settle-alike _ _ _ (both-alike (queues-alike done _ _))
+  call-alike (deleteCq id) = settle-alike _ _ _ (both-alike (queues-alike done _ _))
+  call-alike (deleteSq id) = delete-sq-alike id
   call-alike (tailWrite id v) =
       settle-alike _ _ _
       (pick-alike (doorbell.validTail (sqAt c id .ring) v) _ _ _ _ (both-alike (queues-alike done _ _))

@@ -1,6 +1,6 @@
 -- Every controller that came from a fresh one by calls is valid: a fresh one is, and each call keeps it so. Assumes nothing.
 use Prim.Native.Nat.{ℕ, zero, suc, _+_, _-_, _/_, _^_, _≤_, _<_}
-use mathlib.Core.Bool.{Bool, true, true≢false}
+use mathlib.Core.Bool.{Bool, true, false, true≢false}
 use mathlib.Core.List.{List}
 use mathlib.Core.Path.{_≡_, refl, sym, ap, _∙_}
 use native.Mathlib.Nat.{mod-lt}
@@ -8,6 +8,7 @@ use native.Mathlib.Omega.{arith}
 use lib.Dec.{eqb, lit≤, lit<}
 use lib.ListN.{length, getD, set, length-set, length-replicate}
 use lib.Pow.{pow-pos}
+use lib.Seq.{getD-set-other}
 use Rattle.rules.proofs.Tests.{and-true, clash}
 use Rattle.bits.specs.Bits.{isSet}
 use Rattle.bits.specs.Tags.{givenBack}
@@ -28,6 +29,7 @@ use Rattle.controller.specs.State.{noSq, noCq, noCommand, sqAt, cqAt, co
 use Rattle.controller.specs.State.{sqWithRing, withCommands, withNextNumber, freshController}
 use Rattle.controller.specs.Valid.{RingOk, CommandOk, Valid}
 use Rattle.controller.specs.Create.{newRing}
+use Rattle.controller.specs.Delete.{busy, named}
 use Rattle.controller.specs.Doorbell.{mark}
 use Rattle.controller.specs.Verdict.{oneRules, pairRules, verdictOne, verdictPair}
 use Rattle.controller.specs.Starting.{candidateAt, passed, oneTaken, pairTaken}
@@ -36,16 +38,17 @@ use Rattle.controller.specs.Answers.{Outcome}
 use Rattle.controller.specs.Calls.{Call, Reachable, fresh, after}
 use Rattle.controller.proofs.Lists.{set-ind, set-all, set-keep, in-list, getD-same}
 use Rattle.rules.proofs.Cases.{pick-cases, match-to}
-use Rattle.controller.proofs.Outstanding.{out-set, taken-other, back-was}
+use Rattle.controller.proofs.Outstanding.{says-out, out-set, taken-other, back-was}
+use Rattle.controller.proofs.Deleting.{says-busy, says-named}
 use Rattle.controller.proofs.Choosing.{Candidate}
 use Rattle.controller.proofs.Unlinked.{unlinked-length, unlinked-sq, unlinked-ok}
 use Rattle.controller.proofs.Made.{NewRing, takes-one, takes-pair, finishes, Made, refuses, marks, creates-cq, creates-sq}
-use Rattle.controller.proofs.Made.{moves-tail, moves-head, commands, made}
+use Rattle.controller.proofs.Made.{deletes-cq, deletes-sq, moves-tail, moves-head, commands, made}
 
 abbrev SqHere : SubmissionQueue → Type 0
 SqHere q = q .ring .exists ≡ true
 
-abbrev CqHere : CompletionQueue → Type 0
+abbrev pub CqHere : CompletionQueue → Type 0
 CqHere q = q .ring .exists ≡ true
 
 -- ---- a fresh controller
@@ -135,6 +138,48 @@ module _ {c : Controller} (v : Valid c) where
         sq-cq-low = v .sq-cq-low;
         sq-class = v .sq-class;
         cq-phase = set-all (c .cqs) i q noCq (λ x. x .phase ≤ 1) l′ (f .phase-low) (v .cq-phase);
+        command-ok = v .command-ok;
+        command-sq = v .command-sq;
+      }
+
+  -- a submission queue without outstanding commands is gone
+  without-sq : (i : ℕ) → i < 16 → busy c i ≡ false → Valid (withSq c i noSq)
+  without-sq i l idle =
+      let l′ : i < length (c .sqs) = rw (v .sqs-16) l in
+      record {
+        sqs-16 = length-set (c .sqs) i noSq ∙ v .sqs-16;
+        cqs-16 = v .cqs-16;
+        commands-64 = v .commands-64;
+        free-64 = v .free-64;
+        sq-ok = set-all (c .sqs) i noSq noSq (λ x. SqHere x → RingOk (x .ring)) l′ (λ h. absurd (true≢false (sym h))) (v .sq-ok);
+        cq-ok = v .cq-ok;
+        sq-cq = set-all (c .sqs) i noSq noSq (λ x. SqHere x → CqHere (cqAt c (x .cq))) l′ (λ h. absurd (true≢false (sym h))) (v .sq-cq);
+        sq-cq-low = set-all (c .sqs) i noSq noSq (λ x. x .cq < 16) l′ (lit< tt) (v .sq-cq-low);
+        sq-class = set-all (c .sqs) i noSq noSq (λ x. x .class ≤ 3) l′ (lit≤ tt) (v .sq-class);
+        cq-phase = v .cq-phase;
+        command-ok = v .command-ok;
+        command-sq = λ t o.
+            rw (getD-set-other (c .sqs) i (commandAt c t .sq) noSq noSq
+            (λ e. says-busy c i .no idle (record { tag = t; out = says-out c t .yes o; from = e }))) (v .command-sq t o);
+      }
+
+  -- a completion queue that no submission queue names is gone
+  without-cq : (i : ℕ) → i < 16 → named c i ≡ false → Valid (withCq c i noCq)
+  without-cq i l unnamed =
+      let l′ : i < length (c .cqs) = rw (v .cqs-16) l in
+      record {
+        sqs-16 = v .sqs-16;
+        cqs-16 = length-set (c .cqs) i noCq ∙ v .cqs-16;
+        commands-64 = v .commands-64;
+        free-64 = v .free-64;
+        sq-ok = v .sq-ok;
+        cq-ok = set-all (c .cqs) i noCq noCq (λ x. CqHere x → RingOk (x .ring)) l′ (λ h. absurd (true≢false (sym h))) (v .cq-ok);
+        sq-cq = λ j h.
+            rw (getD-set-other (c .cqs) i (sqAt c j .cq) noCq noCq
+            (λ e. says-named c i .no unnamed (record { sq = j; low = sq-below h; here = h; names = e }))) (v .sq-cq j h);
+        sq-cq-low = v .sq-cq-low;
+        sq-class = v .sq-class;
+        cq-phase = set-all (c .cqs) i noCq noCq (λ x. x .phase ≤ 1) l′ (lit≤ tt) (v .cq-phase);
         command-ok = v .command-ok;
         command-sq = v .command-sq;
       }
@@ -259,6 +304,8 @@ valid-kept v (creates-cq id size base r) = with-cq v id _ (r .id-low) (record { 
 valid-kept v (creates-sq id size base cq class r) =
     with-sq v id _ (r .id-low)
     (record { here = refl; ring = new-ok (r .ring); cq-here = r .cq-here; cq-low = cq-below v (r .cq-here); class-low = r .class-low })
+valid-kept v (deletes-cq id r) = without-cq v id (r .id-low) (r .unnamed)
+valid-kept v (deletes-sq id r) = without-sq v id (r .id-low) (r .idle)
 valid-kept {c} v (moves-tail id x r e) =
     let q = sqAt c id in
     with-sq v id _ (r .id-low)

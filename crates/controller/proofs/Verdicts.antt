@@ -1,6 +1,6 @@
 -- Which verdict a start gives, exactly when: for one command and for a pair, in equations of their fields. Assumes nothing.
 use Prim.Native.Nat.{ℕ, _+_, _%_, _≤_, _<_}
-use mathlib.Core.Bool.{Bool, true, false, _&&_}
+use mathlib.Core.Bool.{_&&_}
 use mathlib.Core.List.{[], _∷_}
 use mathlib.Core.Logic.{_⊎_, inl, inr, ⊎-elim, _↔_}
 use mathlib.Core.Path.{_≡_, refl}
@@ -8,8 +8,7 @@ use native.Mathlib.Nat.{mod-lt}
 use native.Mathlib.Omega.{arith}
 use lib.Dec.{lit<, eqb}
 use Rattle.rules.proofs.Exactly.{Says, says-le, says-eq, says-not, says-as, says-and, says-or, says-sure, Reasons, Decided, decided}
-use Rattle.bits.specs.Bits.{someBelow}
-use Rattle.bits.proofs.Some.{some-which, none-some}
+use Rattle.bits.proofs.Some.{says-some}
 use Rattle.le.specs.Memory.{Memory}
 use Rattle.entry.specs.Submission.{submissionAt}
 use Rattle.entry.specs.declared.submission.Submission.{Submission}
@@ -23,7 +22,7 @@ use Rattle.controller.specs.Answers.{StartAnswer, started}
 use Rattle.controller.specs.Calls.{start, Reachable, perform}
 use Rattle.controller.proofs.Made.{of-start}
 use Rattle.controller.proofs.Validity.{valid}
-use Rattle.controller.proofs.Exactly.{Outstanding, says-out}
+use Rattle.controller.proofs.Outstanding.{Outstanding, says-out}
 
 -- ---- CIDs in use
 
@@ -36,22 +35,12 @@ pub record InUse (c : Controller) (sq cid : ℕ) : Type 0 where
 
 pub in-use : (c : Controller) (sq cid : ℕ) → Says (inUse (c .commands) (c .free) sq cid) (InUse c sq cid)
 unfolding inUse
-in-use c sq cid = record { yes = found; no = none }
-  where
-    test : ℕ → Bool
-    test = uses (c .commands) (c .free) sq cid
-
-    says : (t : ℕ) → Says (test t) (Outstanding c t × ((commandAt c t .sq ≡ sq) × (commandAt c t .cid ≡ cid)))
-    says t = says-and (says-out c t) (says-and (says-eq (commandAt c t .sq) sq) (says-eq (commandAt c t .cid) cid))
-
-    found : someBelow 64 test ≡ true → InUse c sq cid
-    found e =
-        let w = some-which 64 test e in
-        let h = says (w .0) .yes (w .2) in
-        record { tag = w .0; out = h .0; same-sq = h .1 .0; same-cid = h .1 .1 }
-
-    none : someBelow 64 test ≡ false → InUse c sq cid → ⊥
-    none e w = says (w .tag) .no (none-some 64 test e (w .tag) (w .out .0)) (w .out, (w .same-sq, w .same-cid))
+in-use c sq cid =
+    says-as
+    (says-some 64 (uses (c .commands) (c .free) sq cid)
+    (λ t. says-and (says-out c t) (says-and (says-eq (commandAt c t .sq) sq) (says-eq (commandAt c t .cid) cid))))
+    (λ w. record { tag = w .0; out = w .2 .0; same-sq = w .2 .1 .0; same-cid = w .2 .1 .1 })
+    (λ w. (w .tag, w .out .0, (w .out, (w .same-sq, w .same-cid))))
 
 -- ---- what a pair is
 

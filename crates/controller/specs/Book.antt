@@ -11,7 +11,7 @@ use Rattle.entry.specs.declared.completion.Completion.{Completion}
 use Rattle.ring.specs.Slots.{distance}
 use Rattle.controller.specs.Status.{failedFused}
 use Rattle.controller.specs.Answers.{StartAnswer, Answer, unlessRefused, startsIn}
-use Rattle.controller.specs.Calls.{Call, createCq, createSq, tailWrite, headWrite, start, finish}
+use Rattle.controller.specs.Calls.{Call, createCq, createSq, deleteCq, deleteSq, tailWrite, headWrite, start, finish}
 
 pub record BookSq : Type 0 where
   pub cq : ℕ
@@ -57,8 +57,15 @@ newSq size base cq = record { cq = cq; base = base; size = size; head = 0 }
 abbrev pub newCq : ℕ → BookCq
 newCq size = record { size = size; head = 0; phase = 1; waiting = [] }
 
+-- what stands for a queue that does not exist
+abbrev pub noSq : BookSq
+noSq = newSq 0 0 0
+
+abbrev pub noCq : BookCq
+noCq = newCq 0
+
 abbrev pub empty : Book
-empty = record { sqs = λ i. newSq 0 0 0; cqs = λ i. newCq 0; commands = λ t. record { sq = 0; cid = 0; verdict = 0; second = 0 } }
+empty = record { sqs = λ i. noSq; cqs = λ i. noCq; commands = λ t. record { sq = 0; cid = 0; verdict = 0; second = 0 } }
 
 -- the CID in a slot of a queue, in a memory
 abbrev pub cidIn : Memory → BookSq → ℕ → ℕ
@@ -118,10 +125,12 @@ headBook y v =
       waiting = drop (distance (y .size) (y .head) v) (y .waiting);
     }
 
--- what a call that was not refused enters: "tail writes: nothing"
+-- what a call that was not refused enters: "tail writes: nothing", and of deletions "they only remove the queue"
 abbrev pub entered : Book → Memory → Call → Answer → Book
 entered b m (createCq id size base) a = withCq b id (newCq size)
 entered b m (createSq id size base cq class) a = withSq b id (newSq size base cq)
+entered b m (deleteCq id) a = withCq b id noCq
+entered b m (deleteSq id) a = withSq b id noSq
 entered b m (tailWrite id v) a = b
 entered b m (headWrite id v) a = withCq b id (headBook (b .cqs id) v)
 entered b m start a = foldl (startBook m) b (startsIn a)

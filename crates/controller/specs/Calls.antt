@@ -12,6 +12,7 @@ use Rattle.controller.specs.declared.Finished.the-variants as F
 use Rattle.controller.specs.State.{freshController}
 use Rattle.controller.specs.Answers.{Answer, refused, done, started, finished, Outcome}
 use Rattle.controller.specs.Create as create
+use Rattle.controller.specs.Delete as delete
 use Rattle.controller.specs.Doorbell as doorbell
 use Rattle.controller.specs.Starting as starting
 use Rattle.controller.specs.Finishing as finishing
@@ -19,6 +20,8 @@ use Rattle.controller.specs.Finishing as finishing
 pub data Call : Type 0 where
   createCq : (id size base : ℕ) → Call
   createSq : (id size base cq class : ℕ) → Call
+  deleteCq : (id : ℕ) → Call
+  deleteSq : (id : ℕ) → Call
   tailWrite : (id value : ℕ) → Call
   headWrite : (id value : ℕ) → Call
   start : Call
@@ -28,12 +31,15 @@ pub data Call : Type 0 where
 abbrev pub resultOf : Call → ℕ
 resultOf (createCq id size base) = 0
 resultOf (createSq id size base cq class) = 0
+resultOf (deleteCq id) = 0
+resultOf (deleteSq id) = 0
 resultOf (tailWrite id value) = 0
 resultOf (headWrite id value) = 0
 resultOf start = 0
 resultOf (finish tag status result) = result
 
--- The answers of the code in document 01's numbers and values. A creation or a doorbell write answers its refusal number, 0 for done.
+-- The answers of the code in document 01's numbers and values. A creation, a deletion or a doorbell write answers its refusal number,
+-- 0 for done.
 abbrev pub ofNumber : ℕ → Answer
 ofNumber n = pick (eqb n 0) done (refused n)
 
@@ -52,6 +58,8 @@ ofFinished (F.Refused n) = refused n
 abbrev pub perform : Controller → Memory → Call → Outcome
 perform c m (createCq id size base) = create.createCq c m id size base
 perform c m (createSq id size base cq class) = create.createSq c m id size base cq class
+perform c m (deleteCq id) = delete.deleteCq c m id
+perform c m (deleteSq id) = delete.deleteSq c m id
 perform c m (tailWrite id value) = doorbell.tailWrite c m id value
 perform c m (headWrite id value) = doorbell.headWrite c m id value
 perform c m start = starting.start c m

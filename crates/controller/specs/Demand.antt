@@ -11,7 +11,8 @@ use Rattle.ring.specs.Reader.{phaseIn, found}
 use Rattle.controller.specs.Controller.{Controller}
 use Rattle.controller.specs.State.{cqAt, freshController}
 use Rattle.controller.specs.Answers.{Answer, unlessRefused}
-use Rattle.controller.specs.Calls.{Call, createCq, createSq, tailWrite, headWrite, start, finish, resultOf}
+use Rattle.controller.specs.Calls.{Call, createCq, createSq, deleteCq, deleteSq, tailWrite, headWrite, start, finish}
+use Rattle.controller.specs.Calls.{resultOf}
 use Rattle.controller.specs.Steps.{Given, Step, steps, final}
 use Rattle.controller.specs.Book.{Book, empty, enter}
 
@@ -19,11 +20,13 @@ use Rattle.controller.specs.Book.{Book, empty, enter}
 abbrev pub booked : Controller → Book → List Given → Book
 booked c b gs = foldl (λ x s. enter x (s .given .memory) (s .given .call) (s .outcome .answer)) b (steps c gs)
 
--- The head writes accepted at completion queue q since its creation: those before a call, vs, and what a call that was not refused
--- makes of them.
+-- The head writes accepted at completion queue q since its latest creation: those before a call, vs, and what a call that was not
+-- refused makes of them.
 abbrev pub headsIn : ℕ → List ℕ → Call → List ℕ
 headsIn q vs (createCq id size base) = pick (eqb q id) [] vs
 headsIn q vs (createSq id size base cq class) = vs
+headsIn q vs (deleteCq id) = pick (eqb q id) [] vs
+headsIn q vs (deleteSq id) = vs
 headsIn q vs (tailWrite id v) = vs
 headsIn q vs (headWrite id v) = pick (eqb q id) (vs ++ (v ∷ [])) vs
 headsIn q vs start = vs
@@ -48,27 +51,39 @@ standing = foldl (λ p v. record { head = v; phase = pick (ltb v (p .head)) (1 -
 unfoldable pub reader : List ℕ → ℕ → List ℕ → List Completion
 reader ring size vs = found ring size (standing vs .head) (standing vs .phase)
 
+-- completion queue q exists
+abbrev pub There : ℕ → Controller → Type 0
+There q c = cqAt c q .ring .exists ≡ true
+
 -- the bytes of completion queue q's ring
 abbrev pub ringOf : Controller → ℕ → Memory → List ℕ
 ringOf c q m = part m (cqAt c q .ring .base) (16 * cqAt c q .ring .size)
 
 -- nobody wrote into the ring of q between the memories
 abbrev pub Kept : Controller → ℕ → Memory → Memory → Type 0
-Kept c q before now = cqAt c q .ring .exists ≡ true → ringOf c q now ≡ ringOf c q before
+Kept c q before now = There q c → ringOf c q now ≡ ringOf c q before
 
 -- if q is new in controller c′, every phase tag in its ring is 0
 abbrev pub Cleared : ℕ → Memory → Controller → Controller → Type 0
 Cleared q m c c′ =
-    cqAt c q .ring .exists ≡ false → cqAt c′ q .ring .exists ≡ true
+    cqAt c q .ring .exists ≡ false → There q c′
     → (i : ℕ) → i < cqAt c′ q .ring .size → phaseIn (ringOf c′ q m) i ≡ 0
 
--- The premise: every phase tag of q's ring is 0 at its creation, and from then on nobody but the controller writes there. `left` is
--- the memory as the last call left it, `seen` as the reader sees it.
+-- q is not deleted between the controllers: if it exists, it stays
+abbrev pub Keeps : ℕ → Controller → Controller → Type 0
+Keeps q c c′ = There q c → There q c′
+
+-- none of the steps deletes q
+abbrev pub Stays : ℕ → List Step → Type 0
+Stays q [] = Unit {0}
+Stays q (s ∷ ss) = Keeps q (s .before) (s .outcome .controller) × Stays q ss
+
+-- The premise: every phase tag of q's ring is 0 at its latest creation, and from then on nobody but the controller writes there. A
+-- queue that is deleted later asks for nothing. `left` is the memory as the last call left it, `seen` as the reader sees it.
 abbrev pub Clean : ℕ → Controller → Memory → List Step → Memory → Type 0
 Clean q c left [] seen = Kept c q left seen
 Clean q c left (s ∷ ss) seen =
-    Kept c q left (s .given .memory)
-    × Cleared q (s .given .memory) c (s .outcome .controller)
+    (Stays q (s ∷ ss) → Kept c q left (s .given .memory) × Cleared q (s .given .memory) c (s .outcome .controller))
     × Clean q (s .outcome .controller) (s .outcome .memory) ss seen
 
 -- what the types of the code say: a memory holds bytes, and a result has 32 bits
@@ -85,7 +100,7 @@ pub record History : Type 0 where
   pub q : ℕ
   pub typed : Typed calls
   pub clean : Clean q (freshController weighted word) [] (steps (freshController weighted word) calls) seen
-  pub exists : cqAt (final (freshController weighted word) calls) q .ring .exists ≡ true
+  pub exists : There q (final (freshController weighted word) calls)
 
 module _ (h : History) where
   abbrev fresh : Controller

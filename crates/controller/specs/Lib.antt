@@ -4,6 +4,7 @@ pub mod Status
 pub mod Answers
 pub mod Rings
 pub mod Create
+pub mod Delete
 pub mod Doorbell
 pub mod Verdict
 pub mod Starting

@@ -1,3 +1,4 @@
-// Creating queues, and where their rings lie.
+// Creating and deleting queues, and where their rings lie.
 pub mod create;
+pub mod delete;
 pub mod rings;

@@ -17,11 +17,11 @@ use Rattle.controller.specs.Controller.{Controller}
 use Rattle.controller.specs.Answers.{Answer, numberOf, Outcome}
 use Rattle.controller.specs.Finishing.{cqOf}
 use Rattle.controller.specs.Starting.{oneTaken, pairTaken}
-use Rattle.controller.specs.Calls.{Call, createCq, createSq, tailWrite, headWrite, start, finish, perform, Reachable}
+use Rattle.controller.specs.Calls.{Call, createCq, createSq, deleteCq, deleteSq, tailWrite, headWrite, start, finish, perform, Reachable}
 use Rattle.controller.specs.Refusing.{refusals, Among, Values}
 use Rattle.controller.specs.Valid.{Valid}
 use Rattle.controller.proofs.Made.{takes-one, takes-pair, finishes, Made, refuses, marks, creates-cq, creates-sq, moves-tail, moves-head}
-use Rattle.controller.proofs.Made.{commands, made}
+use Rattle.controller.proofs.Made.{deletes-cq, deletes-sq, commands, made}
 use Rattle.controller.proofs.Demand.{demand1}
 use Rattle.controller.proofs.Validity.{valid}
 use Rattle.controller.proofs.Written.{posts-to}
@@ -44,6 +44,8 @@ among-below k (x ∷ ns) b (inr a) = among-below k ns (both (ltb x k) (below k n
 low-refusals : (x : Call) → T (below 256 (refusals x))
 low-refusals (createCq id size base) = tt
 low-refusals (createSq id size base cq class) = tt
+low-refusals (deleteCq id) = tt
+low-refusals (deleteSq id) = tt
 low-refusals (tailWrite id v) = tt
 low-refusals (headWrite id v) = tt
 low-refusals start = tt
@@ -52,6 +54,8 @@ low-refusals (finish tag status result) = tt
 no-number : (x : Call) (a : Answer) → Values x a → numberOf a ≡ 0
 no-number (createCq id size base) a v = ap numberOf v
 no-number (createSq id size base cq class) a v = ap numberOf v
+no-number (deleteCq id) a v = ap numberOf v
+no-number (deleteSq id) a v = ap numberOf v
 no-number (tailWrite id y) a v = ap numberOf v
 no-number (headWrite id y) a v = ap numberOf v
 no-number start a v = ap numberOf (v .1)
@@ -73,6 +77,8 @@ low-result v (refuses x n) h = lit< tt
 low-result v (marks id y g e) h = lit< tt
 low-result v (creates-cq id size base g) h = h
 low-result v (creates-sq id size base cq class g) h = h
+low-result v (deletes-cq id g) h = h
+low-result v (deletes-sq id g) h = h
 low-result v (moves-tail id y g e) h = h
 low-result v (moves-head id y g) h = h
 low-result v (commands (takes-one id a n left g e w)) h = omega (arith, w .low)

@@ -127,7 +127,16 @@ unfolding memory seen settle isSet first maskOf someBelow takenOne givenBack le 
     starting.takeOne starting.start finishing.full finishing.finishRefusal finishing.statusOf finishing.released finishing.unlinked
     finishing.posted finishing.finishedController finishing.finish arbiter.choice arbiter.byGroup turns.turn turns.nextAfter
     word.burstOf begun records recordIn answerBytes r.replay replayCalls
-clean = (λ e. no e, λ e y. clear, (λ e. refl, λ e. no (sym e), (λ e. refl, λ e. no (sym e), (λ e. refl, λ e. no (sym e), λ e. refl))))
+clean = (
+  λ p. (λ e. no e, λ e y. clear),
+  (
+    λ p. (λ e. refl, λ e. no (sym e)),
+    (
+      λ p. (λ e. refl, λ e. no (sym e)),
+      (λ p. (λ e. refl, λ e. no (sym e)), λ e. refl),
+    ),
+  ),
+)
 
 unfoldable pub example : Course
 unfolding memory seen settle isSet first maskOf someBelow takenOne givenBack le leAt part put completionBytes submissionAt next

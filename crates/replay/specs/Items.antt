@@ -1,7 +1,6 @@
 -- Demand 3 where traces are replayed: "In demand 3 a replay stands for the calls it makes, in order."
 use Prim.Native.Nat.{ℕ, _<_, _^_}
-use mathlib.Core.Path.{_≡_}
-use mathlib.Core.Bool.{Bool, true}
+use mathlib.Core.Bool.{Bool}
 use mathlib.Core.List.{List, [], _∷_, _++_}
 use lib.ListN.{length}
 use Rattle.rules.specs.Rules.{firstMatch, settle}
@@ -12,7 +11,7 @@ use Rattle.controller.specs.State.{cqAt, freshController}
 use Rattle.controller.specs.Calls.{Call, resultOf}
 use Rattle.controller.specs.Steps.{Given, made, given}
 use Rattle.controller.specs.Book.{empty}
-use Rattle.controller.specs.Demand.{booked, heads, ringOf, Kept, Cleared}
+use Rattle.controller.specs.Demand.{booked, heads, There, ringOf, Kept, Cleared, Keeps}
 use Rattle.trace.specs.Trace.{records, callsIn}
 use Rattle.replay.specs.Replay as r
 use Rattle.replay.specs.Replay.{roomRules}
@@ -53,11 +52,16 @@ abbrev pub callsOf : Controller → List Item → List Given
 callsOf c [] = []
 callsOf c (i ∷ is) = callsBy c i ++ callsOf (after c i) is
 
+-- none of the items deletes q (controller Demand.Stays)
+abbrev pub Stays : ℕ → Controller → List Item → Type 0
+Stays q c [] = Unit {0}
+Stays q c (i ∷ is) = Keeps q c (after c i) × Stays q (after c i) is
+
 -- the premise on the ring of q, item by item (controller Demand.Clean)
 abbrev pub Clean : ℕ → Controller → Memory → List Item → Memory → Type 0
 Clean q c left [] seen = Kept c q left seen
 Clean q c left (i ∷ is) seen =
-    Kept c q left (memoryOf i) × Cleared q (memoryOf i) c (after c i) × Clean q (after c i) (leftBy c i) is seen
+    (Stays q c (i ∷ is) → Kept c q left (memoryOf i) × Cleared q (memoryOf i) c (after c i)) × Clean q (after c i) (leftBy c i) is seen
 
 -- what the types of the code say
 abbrev pub Typed : List Item → Type 0
@@ -74,7 +78,7 @@ pub record Course : Type 0 where
   pub q : ℕ
   pub typed : Typed items
   pub clean : Clean q (freshController weighted word) [] items seen
-  pub exists : cqAt (afterAll (freshController weighted word) items) q .ring .exists ≡ true
+  pub exists : There q (afterAll (freshController weighted word) items)
 
 module _ (h : Course) where
   abbrev fresh : Controller

@@ -8,7 +8,7 @@ use Rattle.le.specs.Le.{le}
 use Rattle.le.specs.Memory.{Memory, put}
 use Rattle.controller.specs.Controller.{Controller}
 use Rattle.controller.specs.Answers.{Answer, refused, done, started, finished, numberOf}
-use Rattle.controller.specs.Calls.{Call, createCq, createSq, tailWrite, headWrite, start, finish, perform}
+use Rattle.controller.specs.Calls.{Call, createCq, createSq, deleteCq, deleteSq, tailWrite, headWrite, start, finish, perform}
 use Rattle.trace.specs.Record.{sent, recordIn, Asked, call, none, asked}
 use Rattle.trace.specs.Trace.{begun, records}
 use Rattle.replay.specs.declared.Replayed.{Replayed}
@@ -18,6 +18,8 @@ use Rattle.replay.specs.declared.Replayed.the-variants.{Records, Refused
 abbrev pub valueOf : Call → ℕ
 valueOf (createCq id size base) = 0
 valueOf (createSq id size base cq class) = 0
+valueOf (deleteCq id) = 0
+valueOf (deleteSq id) = 0
 valueOf (tailWrite id value) = value
 valueOf (headWrite id value) = value
 valueOf start = 0

@@ -116,6 +116,12 @@ abbrev pub NoneOf : Reasons → Type 0
 NoneOf [] = Unit {0}
 NoneOf (r ∷ rs) = (r .0 → ⊥) × NoneOf rs
 
+-- where no reason holds, no number is given
+pub none-given : (rs : Reasons) {n : ℕ} → NoneOf rs → Decided rs n → n ≡ 0
+none-given [] o d = d
+none-given (r ∷ rs) o (inl p) = absurd (o .0 (p .0))
+none-given (r ∷ rs) o (inr p) = none-given rs (o .1) (p .1)
+
 other : (k n : ℕ) → T (not (eqb k n)) → k ≡ n → ⊥
 other k n h e = go (eqb k n) (eq-eqb k n e) h
   where
