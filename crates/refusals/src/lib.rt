@@ -67,6 +67,9 @@ pub fn put_meaning(out: &mut [u8], at: usize, n: u64) -> usize
             at,
             b"the start would need a number above 18,446,744,073,709,551,614",
         ),
+        33 => put(out, at, b"the SQ has outstanding commands"),
+        34 => put(out, at, b"an SQ names the CQ"),
+        35 => put(out, at, b"id 0 is never deleted"),
         _ => put(out, at, b"see the table of refusals"),
     }
 }

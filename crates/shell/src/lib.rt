@@ -156,6 +156,8 @@ fn run(
         Command::Controller
         | Command::CreateCq
         | Command::CreateSq
+        | Command::DeleteCq
+        | Command::DeleteSq
         | Command::Tail
         | Command::Head
         | Command::Start

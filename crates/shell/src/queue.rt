@@ -7,6 +7,8 @@ use doorbells::tail_write;
 use finisher::finish;
 use queues::create::create_cq;
 use queues::create::create_sq;
+use queues::delete::delete_cq;
+use queues::delete::delete_sq;
 use starter::start;
 use stateless::codec::low32;
 use stateless::reply::Reply;
@@ -73,6 +75,8 @@ pub fn call(state: &mut [u64; WORDS], memory: &mut [u8], command: Command, a: [u
     match command {
         Command::CreateCq => Reply::of(create_cq(state, memory, a[0], a[1], a[2])),
         Command::CreateSq => Reply::of(create_sq(state, memory, a[0], a[1], a[2], a[3], a[4])),
+        Command::DeleteCq => Reply::of(delete_cq(state, a[0])),
+        Command::DeleteSq => Reply::of(delete_sq(state, a[0])),
         Command::Tail => Reply::of(tail_write(state, a[0], a[1])),
         Command::Head => Reply::of(head_write(state, a[0], a[1])),
         Command::Start => started(start(state, memory)),

@@ -9,6 +9,8 @@ pub enum Command {
     Peek,
     CreateCq,
     CreateSq,
+    DeleteCq,
+    DeleteSq,
     Tail,
     Head,
     Start,
@@ -116,6 +118,12 @@ fn of_nine(word: &[u8]) -> Command {
     if is(word, b"create-sq") {
         return Command::CreateSq;
     }
+    if is(word, b"delete-cq") {
+        return Command::DeleteCq;
+    }
+    if is(word, b"delete-sq") {
+        return Command::DeleteSq;
+    }
     if is(word, b"write-sqe") {
         return Command::WriteSqe;
     }
@@ -155,8 +163,13 @@ pub fn named(word: &[u8]) -> Command {
 pub fn takes(command: Command, count: usize) -> bool {
     match command {
         Command::Start => count == 0,
-        Command::Lend | Command::Replay | Command::ShowSq | Command::ShowCq | Command::ShowTag =>
-            count == 1,
+        Command::Lend
+        | Command::DeleteCq
+        | Command::DeleteSq
+        | Command::Replay
+        | Command::ShowSq
+        | Command::ShowCq
+        | Command::ShowTag => count == 1,
         Command::Controller
         | Command::Peek
         | Command::Tail

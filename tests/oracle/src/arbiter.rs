@@ -83,6 +83,16 @@ impl Arbiter {
         self.credits
     }
 
+    /// Who holds the turn of the SQs of this class, and whether some of it is left.
+    pub fn holder(&self, class: u64) -> (usize, bool) {
+        let turn = match (self.mechanism, class) {
+            (0, _) => self.all,
+            (_, 0) => self.urgent,
+            (_, level) => self.levels[level as usize - 1],
+        };
+        (turn.holder, turn.remainder != Remainder::Starts(0))
+    }
+
     /// "bits 2:0 give the burst as a power of two, 7 meaning no limit".
     fn burst(&self) -> Remainder {
         match self.word % 8 {

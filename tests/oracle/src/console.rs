@@ -32,7 +32,7 @@ const fn form(name: &'static str, limits: &'static [u64]) -> Form {
 /// The room for answer records; the words of the trace come after it.
 const REPLAY: Form = form("replay", &[2048]);
 
-pub const FORMS: [Form; 24] = [
+pub const FORMS: [Form; 26] = [
     form("controller", &[ANY, B32]),
     form("lend", &[MEMORY as u64]),
     Form { name: "poke", limits: &[ANY, B8], further: Some(B8) },
@@ -41,6 +41,8 @@ pub const FORMS: [Form; 24] = [
     form("peek", &[ANY, 1024]),
     form("create-cq", &[ANY; 3]),
     form("create-sq", &[ANY; 5]),
+    form("delete-cq", &[ANY]),
+    form("delete-sq", &[ANY]),
     form("tail", &[ANY; 2]),
     form("head", &[ANY; 2]),
     form("start", &[]),
@@ -263,6 +265,8 @@ impl Console {
             }
             "create-cq" => refusal(self.controller.create_cq(lent, n[0], n[1], n[2])),
             "create-sq" => refusal(self.controller.create_sq(lent, n[0], n[1], n[2], n[3], n[4])),
+            "delete-cq" => refusal(self.controller.delete_cq(n[0])),
+            "delete-sq" => refusal(self.controller.delete_sq(n[0])),
             "tail" => refusal(self.controller.write_tail(n[0], n[1])),
             "head" => refusal(self.controller.write_head(n[0], n[1])),
             "start" => self.start(),

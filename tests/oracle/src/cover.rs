@@ -2,9 +2,12 @@
 
 use crate::arbiter::Candidates;
 use crate::console::{lines, Console, Outcome, FORMS};
+use crate::cover_again;
+use crate::cover_deletes::{self, Deletions, Line};
 use crate::cover_doorbells::{self, Doorbells};
 use crate::cover_numbers::{self, Numbers};
 use crate::cover_replay::{self, record_events, Replay};
+use crate::cover_turns::{self, Turns};
 use crate::entry::Submission;
 use crate::line::{number, words};
 use crate::model::{Sq, CID_CONFLICT, FAILED_FUSED, INVALID_FIELD, MISSING_FUSED, TAGS};
@@ -106,19 +109,26 @@ struct Cover {
     fresh: bool,
     doorbells: Doorbells,
     numbers: Numbers,
+    deletions: Deletions,
+    turns: Turns,
 }
 
 /// The table for a script.
 pub fn table(script: &[u8]) -> String {
     let mut cover = Cover { console: Some(Console::new()), ..Cover::default() };
-    let events = EVENTS.into_iter().chain(BURSTS).chain(POINTERS).chain(cover_numbers::EVENTS);
-    let events = events.map(str::to_string);
-    let events = events.chain(cover_doorbells::events()).chain(cover_replay::events());
-    cover.events = events.map(|event| (event, [0; 2])).collect();
+    cover.events = events().into_iter().map(|event| (event, [0; 2])).collect();
     for (line, ended) in lines(script) {
         cover.take(line, ended);
     }
     cover.print()
+}
+
+/// Every event that is counted.
+fn events() -> Vec<String> {
+    let named = EVENTS.into_iter().chain(BURSTS).chain(POINTERS).chain(cover_numbers::EVENTS);
+    let named = named.chain(cover_again::EVENTS).chain(cover_turns::EVENTS).map(str::to_string);
+    let made = cover_doorbells::events().into_iter().chain(cover_replay::events());
+    named.chain(made).chain(cover_deletes::events()).collect()
 }
 
 /// The numbers after the command's word, of a line that was no bad one.
@@ -170,6 +180,9 @@ impl Cover {
         let Outcome::Numbers(name, answer) = &outcome else { return outcome };
         let mut events = self.doorbells.events(&before, name, &asked, answer[0]);
         events.extend(self.numbers.events(&before, name, &asked, answer, replayed));
+        let line = Line { before: &before, after: console, name, asked: &asked, answer };
+        events.extend(self.deletions.events(&line));
+        events.extend(self.turns.events(&line));
         events.iter().for_each(|event| self.count(console, event));
         match *name {
             "start" => {
@@ -474,7 +487,7 @@ impl Cover {
         }
         let _ = writeln!(out, "\nrefusal      count  given by");
         // 32 wants more starts than a script can have.
-        for refusal in (1..=23).chain([MALFORMED, SHORT]) {
+        for refusal in (1..=23).chain([MALFORMED, SHORT, 33, 34, 35]) {
             let by = self.refusals.get(&refusal).cloned().unwrap_or_default();
             let total: u64 = by.values().sum();
             let names: Vec<String> =

@@ -122,8 +122,11 @@ impl Doorbells {
         asked: &[u64],
         refusal: u64,
     ) -> Vec<String> {
-        if name == "controller" {
-            *self = Doorbells::default();
+        match (name, refusal) {
+            ("controller", _) => *self = Doorbells::default(),
+            ("delete-sq", 0) => self.forget(("tail", asked[0])),
+            ("delete-cq", 0) => self.forget(("head", asked[0])),
+            _ => {}
         }
         let Some(write) = Write::of(controller, name, asked) else { return Vec::new() };
         let mut events: Vec<String> = write.refused(name, refusal).into_iter().collect();
@@ -131,6 +134,12 @@ impl Doorbells {
             events.extend(self.written((name, asked[0]), &write, refusal));
         }
         events
+    }
+
+    /// The queue is deleted: another that has its number is a new one.
+    fn forget(&mut self, doorbell: Doorbell) {
+        self.accepted.remove(&doorbell);
+        self.refused.remove(&doorbell);
     }
 
     /// What a doorbell write has to do with those before it, and with its low bits.

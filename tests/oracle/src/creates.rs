@@ -1,6 +1,7 @@
 //! Script lines that make controllers and queues, rightly and wrongly.
 
 use crate::console::MEMORY;
+use crate::deletes::Gone;
 use crate::entry::{COMPLETION, SUBMISSION};
 use crate::generate::{Generator, Mood, SCRATCH};
 use crate::ring::Extent;
@@ -12,15 +13,16 @@ impl Generator {
         if self.random.chance(75) {
             self.say(&format!("fill 0 {MEMORY} 0"));
         }
+        self.gone = Gone::default();
         let word = self.word();
         let sound = self.chapter % 2;
         let edge = self.random.edge();
-        let mechanism = match self.random.weighted(&[70, 20, 10]) {
+        let mechanism = match self.random.weighted(&[60, 25, 15]) {
             0 => sound,
             1 => self.random.pick(&[2, edge]),
             _ => self.random.lifted(sound),
         };
-        if !self.say(&format!("controller {mechanism} {word}")) && self.random.chance(80) {
+        if !self.say(&format!("controller {mechanism} {word}")) && self.random.chance(85) {
             self.say(&format!("controller {sound} {word}"));
         }
         // Few queues, several SQs on few CQs, or all sixteen.
@@ -36,6 +38,9 @@ impl Generator {
         let first = u64::from(self.random.chance(30));
         for id in first..=cqs {
             self.create_cq(id, sizes);
+        }
+        if self.random.chance(40) {
+            self.delete_admin();
         }
         // SQ 0 may name CQ 0 alone.
         if first == 1 && self.random.chance(70) {
@@ -71,7 +76,7 @@ impl Generator {
         word
     }
 
-    fn size(&mut self, sizes: usize) -> u64 {
+    pub fn size(&mut self, sizes: usize) -> u64 {
         match sizes {
             0 => self.random.within(2, 8),
             1 => self.random.within(2, 40),
@@ -80,21 +85,31 @@ impl Generator {
         }
     }
 
-    fn create_cq(&mut self, id: u64, sizes: usize) {
+    pub fn create_cq(&mut self, id: u64, sizes: usize) {
         let size = self.size(sizes);
         let base = self.free_base(size, COMPLETION);
         self.say(&format!("create-cq {id} {size} {base}"));
     }
 
-    fn create_sq(&mut self, id: u64, cq: u64, sizes: usize) {
+    pub fn create_sq(&mut self, id: u64, cq: u64, sizes: usize) {
         let size = self.size(sizes);
         let base = self.free_base(size, SUBMISSION);
-        let class = self.random.below(4);
+        let class = self.class();
         self.say(&format!("create-sq {id} {size} {base} {cq} {class}"));
     }
 
+    /// In each chapter one class is more often than others, so that it has several SQs.
+    fn class(&mut self) -> u64 {
+        let any = self.random.below(4);
+        if self.random.chance(40) {
+            self.chapter / 2 % 4
+        } else {
+            any
+        }
+    }
+
     /// CQ 0 for SQ 0, any other existing one for another SQ.
-    fn fitting_cq(&mut self, sq: u64) -> u64 {
+    pub fn fitting_cq(&mut self, sq: u64) -> u64 {
         let cqs: Vec<u64> =
             (1..16).filter(|id| self.console.controller.cq(*id).is_some()).collect();
         match self.random.choose(&cqs) {
@@ -115,7 +130,7 @@ impl Generator {
     }
 
     /// A base where a ring of this size shares no byte with another, if one is soon found.
-    fn free_base(&mut self, size: u64, entry: usize) -> u64 {
+    pub fn free_base(&mut self, size: u64, entry: usize) -> u64 {
         let mut base = 0;
         for _ in 0..30 {
             base = match self.random.choose(&self.pages_after_rings()) {
@@ -249,7 +264,7 @@ impl Generator {
             self.say(&format!("create-cq {id} 2 {start}"));
         }
         for _ in 0..self.random.within(2, 8) {
-            match self.random.below(8) {
+            match self.random.below(9) {
                 0 | 1 => {
                     self.say("start");
                 }
@@ -261,6 +276,7 @@ impl Generator {
                 4 => self.odd_create(),
                 5 => self.reader(),
                 6 => self.replay(Mood::Normal),
+                7 => self.delete_outside(),
                 _ => self.memory(),
             }
         }

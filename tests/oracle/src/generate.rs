@@ -2,6 +2,7 @@
 //! console, so it always knows the state that the next line meets.
 
 use crate::console::{Console, Outcome, MEMORY};
+use crate::deletes::Gone;
 use crate::model::{Command, Part, Sq};
 use crate::random::Random;
 use crate::ring;
@@ -19,6 +20,8 @@ pub struct Generator {
     pub last_cid: u64,
     /// Counts the chapters up from any number.
     pub chapter: u64,
+    /// The queues of this chapter that were deleted.
+    pub gone: Gone,
 }
 
 /// What the traffic of a stretch of lines tends to.
@@ -58,6 +61,7 @@ pub fn script(seed: u64, lines: usize) -> Vec<u8> {
         wanted: lines,
         last_cid: 0,
         chapter: 0,
+        gone: Gone::default(),
     };
     generator.chapter = generator.random.below(16);
     while !generator.is_done() {
@@ -119,6 +123,9 @@ impl Generator {
             if self.random.chance(70) {
                 self.long_replays();
             }
+            if self.random.chance(40) {
+                self.cleaning_shift();
+            }
             if self.unmarked_sqs().is_empty() {
                 return;
             }
@@ -126,10 +133,11 @@ impl Generator {
     }
 
     fn step(&mut self, mood: Mood) {
-        if self.console.lent < MEMORY && self.random.chance(30) {
-            self.say(&format!("lend {MEMORY}"));
+        if self.random.chance(30) {
+            self.lend_all();
         }
-        let weights = [500, 90, 36, 24, 38, 100, 40, 28, 60, 10, 6, 7, 3, 1, 5, 8, 7, 170];
+        let weights =
+            [500, 90, 36, 24, 38, 100, 40, 28, 60, 10, 6, 7, 3, 1, 5, 8, 7, 28, 14, 18, 170];
         match self.random.weighted(&weights) {
             0 => self.traffic(mood),
             1 => self.odd_create(),
@@ -148,7 +156,17 @@ impl Generator {
             14 => self.crowd(),
             15 => self.held_head(),
             16 => self.early_head(),
+            17 => self.delete(),
+            18 => self.create_again(),
+            19 => self.holder_again(),
             _ => self.replay(mood),
+        }
+    }
+
+    /// Lends all of the memory, where less is lent.
+    pub fn lend_all(&mut self) {
+        if self.console.lent < MEMORY {
+            self.say(&format!("lend {MEMORY}"));
         }
     }
 

@@ -1,16 +1,21 @@
-//! A second implementation of document 01 and of document 02's first four requests, as far as they
+//! A second implementation of document 01 and of document 02's first five requests, as far as they
 //! change an answer, written from the papers and from the same list of readings
 //! (docs/DECISIONS.md), sharing no code with the model, with a generator of random scripts in the
 //! console's language and a runner that holds another console to it.
 
+mod again;
 mod arbiter;
 mod compare;
 mod console;
 mod cover;
+mod cover_again;
+mod cover_deletes;
 mod cover_doorbells;
 mod cover_numbers;
 mod cover_replay;
+mod cover_turns;
 mod creates;
+mod deletes;
 mod entry;
 mod generate;
 mod line;
@@ -24,6 +29,8 @@ mod replays;
 mod ring;
 mod shrink;
 mod traced;
+mod traced_again;
+mod traced_deletes;
 mod traced_doorbells;
 mod traced_limit;
 mod traced_numbers;

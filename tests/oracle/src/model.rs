@@ -1,6 +1,7 @@
 //! The controller of document 01: creates, doorbell writes, start and finish, with the start
-//! numbers of document 02's fourth request. Refusals are the papers' numbers. Each condition of
-//! the refusal table is tested by itself, and the first in the papers' order is given.
+//! numbers of document 02's fourth request and the deletions of its fifth. Refusals are the papers'
+//! numbers. Each condition of the refusal table is tested by itself, and the first in the papers'
+//! order is given.
 
 use crate::arbiter::{Arbiter, Candidates, QUEUES};
 use crate::entry::{Completion, Submission, COMPLETION, STATUS_MAX, SUBMISSION};
@@ -93,7 +94,7 @@ pub struct Controller {
 /// A list of refusal numbers, each with whether it applies, in the order of the paper.
 pub type Faults = Vec<(u64, bool)>;
 
-fn first_of(faults: &Faults) -> Result<(), u64> {
+fn first_of(faults: &[(u64, bool)]) -> Result<(), u64> {
     match faults.iter().find(|(_, applies)| *applies) {
         Some((number, _)) => Err(*number),
         None => Ok(()),
@@ -106,7 +107,7 @@ fn named<Q>(queues: &[Option<Q>; QUEUES], id: u64) -> Option<&Q> {
 }
 
 impl Sq {
-    fn extent(&self) -> Extent {
+    pub fn extent(&self) -> Extent {
         Extent::new(self.base, self.size, SUBMISSION)
     }
 
@@ -121,7 +122,7 @@ impl Sq {
 }
 
 impl Cq {
-    fn extent(&self) -> Extent {
+    pub fn extent(&self) -> Extent {
         Extent::new(self.base, self.size, COMPLETION)
     }
 }
@@ -221,6 +222,42 @@ impl Controller {
         Ok(())
     }
 
+    /// The outstanding commands of this SQ.
+    pub fn commands_of(&self, sq: u64) -> impl Iterator<Item = &Command> + '_ {
+        self.tags.iter().flatten().filter(move |command| command.sq as u64 == sq)
+    }
+
+    /// The SQs that name this CQ.
+    pub fn sqs_on(&self, cq: u64) -> impl Iterator<Item = &Sq> + '_ {
+        self.sqs.iter().flatten().filter(move |sq| sq.cq as u64 == cq)
+    }
+
+    /// "Deleting an SQ drops its unstarted entries and is refused while it has outstanding commands
+    /// (33)." "Id 0 is never deleted (35). Order: 1, 35, 9, 33 or 34." "a mark ends with its queue",
+    /// and so does all else that the queue is; turns, credits and start numbers are not its own.
+    pub fn delete_sq(&mut self, id: u64) -> Result<(), u64> {
+        first_of(&[
+            (1, id > 15),
+            (35, id == 0),
+            (9, self.sq(id).is_none()),
+            (33, self.commands_of(id).next().is_some()),
+        ])?;
+        self.sqs[id as usize] = None;
+        Ok(())
+    }
+
+    /// "Deleting a CQ is refused while an SQ names it (34)." Unread entries do not stop it.
+    pub fn delete_cq(&mut self, id: u64) -> Result<(), u64> {
+        first_of(&[
+            (1, id > 15),
+            (35, id == 0),
+            (9, self.cq(id).is_none()),
+            (34, self.sqs_on(id).next().is_some()),
+        ])?;
+        self.cqs[id as usize] = None;
+        Ok(())
+    }
+
     /// "tail write 1, 9, 11, 10"; "10 on a tail write marks the SQ". "A new queue holds 0; refused
     /// writes do not count": the value held is the tail.
     pub fn write_tail(&mut self, id: u64, value: u64) -> Result<(), u64> {
@@ -274,7 +311,7 @@ impl Controller {
 
     /// "CID in use by an outstanding command of the same SQ".
     fn cid_in_use(&self, sq: usize, cid: u64) -> bool {
-        self.tags.iter().flatten().any(|command| command.sq == sq && command.cid == cid)
+        self.commands_of(sq as u64).any(|command| command.cid == cid)
     }
 
     /// "start 5, 12, 13", and 32 "after 13 in the order". "One start takes one command, or a whole

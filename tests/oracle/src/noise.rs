@@ -26,8 +26,20 @@ const BAD_NUMBERS: [&str; 20] = [
     "0x1_0",
 ];
 
-const UNKNOWN: [&str; 10] =
-    ["begin", "Start", "START", "start-", "start0", "create", "show", "poke65", "?", "exit"];
+const UNKNOWN: [&str; 12] = [
+    "begin",
+    "Start",
+    "START",
+    "start-",
+    "start0",
+    "create",
+    "delete",
+    "delete-sq1 1",
+    "show",
+    "poke65",
+    "?",
+    "exit",
+];
 
 impl Generator {
     /// The same line in other clothes: hexadecimal numbers, leading zeros, tabs, a comment,
@@ -117,6 +129,8 @@ impl Generator {
             format!("write-cqe 1048000 16 {a} {b} {c} {a} {b} {c}"),
             format!("write-sqe 1048000 64 {a} 0 0 {b} 1 0 0 0 {c} 0 0 0 0 0"),
             format!("create-cq {a} 2 {}", 4096 * b),
+            format!("delete-sq {}", 16 * c),
+            format!("delete-cq {}", 16 * c),
             format!("replay 16 02{a:02x}{b:02x}{:026}", 0),
             format!("replay 48 02{a:02x} {b:02x}{:026} 05", 0),
             "start".to_string(),
@@ -254,6 +268,8 @@ impl Generator {
             format!("write-cqe 1048000 16 0 0 0 {} 0 0", 65_535 + over),
             format!("walk 0 0 1 0 {} 4", 65_536 + over),
             format!("walk 0 0 1 0 8 {}", 65_536 + over),
+            format!("delete-sq {}", (1 << 64) - 1 + u128::from(over)),
+            format!("delete-cq {}", (1 << 64) - 1 + u128::from(over)),
             format!("show-sq {}", 15 + over),
             format!("show-cq {}", 15 + over),
             format!("show-tag {}", 63 + over),

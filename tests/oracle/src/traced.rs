@@ -3,7 +3,8 @@
 //! requests, and so does `cargo test`.
 
 use crate::console::{answers, Console};
-use crate::{traced_doorbells, traced_limit, traced_numbers, traced_replay};
+use crate::{traced_again, traced_deletes, traced_doorbells, traced_limit};
+use crate::{traced_numbers, traced_replay};
 
 /// A console that remembers every answer other than the expected one.
 pub struct Trial {
@@ -16,7 +17,7 @@ impl Trial {
         Trial { console: Console::new(), faults: Vec::new() }
     }
 
-    fn ask(&mut self, line: &str) -> String {
+    pub fn ask(&mut self, line: &str) -> String {
         let mut out = Vec::new();
         self.console.take(line.as_bytes(), true).write(&mut out);
         String::from_utf8_lossy(&out).trim_end().to_string()
@@ -26,6 +27,16 @@ impl Trial {
         let answer = self.ask(line);
         if answer != expected {
             self.faults.push(format!("{line}: {answer}, expected {expected}"));
+        }
+    }
+
+    /// Expects this answer, and that neither controller nor memory changes.
+    pub fn unchanged(&mut self, line: &str, expected: &str) {
+        let before = self.console.clone();
+        self.expect(line, expected);
+        let (now, then) = (&self.console, &before);
+        if now.controller != then.controller || now.memory() != then.memory() {
+            self.faults.push(format!("{line}: {expected} changed something"));
         }
     }
 
@@ -229,6 +240,7 @@ const TRIALS: [Named; 10] = [
 pub fn faults() -> Vec<String> {
     let trials = TRIALS.into_iter().chain(traced_doorbells::TRIALS).chain(traced_replay::TRIALS);
     let trials = trials.chain(traced_numbers::TRIALS).chain(traced_limit::TRIALS);
+    let trials = trials.chain(traced_deletes::TRIALS).chain(traced_again::TRIALS);
     trials.flat_map(played).collect()
 }
 

@@ -474,12 +474,18 @@ impl Generator {
         }
     }
 
-    /// Finishes every command in rising order of tags, taking completions off full CQs.
+    /// Finishes every command in rising order of tags.
     fn finish_all(&mut self) {
-        for tag in self.outstanding() {
-            let Some(command) = self.command(tag) else { continue };
+        let tags = self.outstanding();
+        self.finish_tags(&tags);
+    }
+
+    /// Finishes the commands of these tags, taking completions off full CQs.
+    pub fn finish_tags(&mut self, tags: &[usize]) {
+        for tag in tags {
+            let Some(command) = self.command(*tag) else { continue };
             let cq = self.sq(command.sq).map_or(0, |sq| sq.cq);
-            if !self.is_ready(tag) {
+            if !self.is_ready(*tag) {
                 self.take_all(cq);
             }
             self.say(&format!("finish {tag} 0 {tag}"));
@@ -487,7 +493,7 @@ impl Generator {
     }
 
     /// Takes every completion off a CQ, if there is one.
-    fn take_all(&mut self, id: usize) {
+    pub fn take_all(&mut self, id: usize) {
         let cq = self.console.controller.cqs[id].as_ref().filter(|cq| cq.head != cq.tail);
         if let Some(tail) = cq.map(|cq| cq.tail) {
             self.say(&format!("head {id} {tail}"));
