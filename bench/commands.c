@@ -42,6 +42,7 @@ static const struct row controller_rows[] = {
     {"start and finish, mechanism 1, 63 outstanding commands", NULL, {COMMANDS, 1, 1, 63}},
     {"replay, for each record, mechanism 0, 1 busy queue of 16", NULL, {REPLAYS, 0, 1, 0}},
     {"replay, for each record, mechanism 0, 16 busy queues", NULL, {REPLAYS, 0, 16, 0}},
+    {"delete and create an SQ and a CQ (four calls), 32 queues", NULL, {DELETES, 0, 16, 0}},
 };
 
 static const struct row growth_rows[] = {
@@ -78,6 +79,8 @@ static double calls_of(const struct plan *plan)
         return SUBMITTED / 2 * (double)plan->busy;
     case REPLAYS:
         return TRACE / RECORD;
+    case DELETES:
+        return QUEUES - 1;
     default:
         return SUBMITTED * (double)plan->busy;
     }

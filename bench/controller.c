@@ -131,6 +131,52 @@ unsigned create_sq(struct controller *c, size_t memory, uint64_t id, uint64_t si
     return 0;
 }
 
+static bool has_outstanding(const struct controller *c, uint8_t sq)
+{
+    for (uint64_t left = ~c->free; left; left &= left - 1) {
+        if (c->commands[__builtin_ctzll(left)].sq == sq)
+            return true;
+    }
+    return false;
+}
+
+unsigned delete_sq(struct controller *c, uint64_t id)
+{
+    if (id > 15)
+        return 1;
+    if (id == 0)
+        return 35;
+    if (!c->sqs[id].ring.exists)
+        return 9;
+    if (has_outstanding(c, id))
+        return 33;
+    c->sqs[id].ring.exists = false;
+    return 0;
+}
+
+static bool named(const struct controller *c, uint8_t cq)
+{
+    for (int i = 0; i < 16; i++) {
+        if (c->sqs[i].ring.exists && c->sqs[i].cq == cq)
+            return true;
+    }
+    return false;
+}
+
+unsigned delete_cq(struct controller *c, uint64_t id)
+{
+    if (id > 15)
+        return 1;
+    if (id == 0)
+        return 35;
+    if (!c->cqs[id].ring.exists)
+        return 9;
+    if (named(c, id))
+        return 34;
+    c->cqs[id].ring.exists = false;
+    return 0;
+}
+
 static uint64_t distance(const struct ring *r, uint64_t from, uint64_t to)
 {
     return from <= to ? to - from : to + r->size - from;

@@ -78,6 +78,8 @@ struct finished {
 unsigned controller_init(struct controller *c, uint64_t mechanism, uint32_t word);
 unsigned create_cq(struct controller *c, size_t memory, uint64_t id, uint64_t size, uint64_t base);
 unsigned create_sq(struct controller *c, size_t memory, uint64_t id, uint64_t size, uint64_t base, uint64_t cq, uint64_t class);
+unsigned delete_sq(struct controller *c, uint64_t id);
+unsigned delete_cq(struct controller *c, uint64_t id);
 unsigned tail_write(struct controller *c, uint64_t id, uint64_t value);
 unsigned head_write(struct controller *c, uint64_t id, uint64_t value);
 unsigned start(struct controller *c, const uint8_t *memory, size_t length, struct started *out);

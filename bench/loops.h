@@ -3,7 +3,8 @@
  * unit of its own, so that both have the same loop around calls that are not inlined. Before, the side has defined its
  * calls as static functions, which add as little as they can:
  *
- *     call_new, call_create_cq, call_create_sq, call_tail, call_head, call_start, call_finish, call_replay, call_look
+ *     call_new, call_create_cq, call_create_sq, call_delete_sq, call_delete_cq
+ *     call_tail, call_head, call_start, call_finish, call_replay, call_look
  *     call_save, call_restore      the controller's state is kept, and put back
  */
 
@@ -123,16 +124,20 @@ static struct heard heard(void)
     return (struct heard){at.digest, at.unwanted};
 }
 
+static void create(uint64_t id, uint64_t size)
+{
+    hear(call_create_cq(id, size, cq_base(size, id)));
+    hear(call_create_sq(id, size, sq_base(size, id), id, id % 4));
+}
+
 static struct heard prepare(const struct plan *plan)
 {
     uint64_t size = ring_size(plan);
 
     at = (struct progress){.digest = 1};
     hear(call_new(plan->mechanism, WORD));
-    for (uint64_t id = 0; id < QUEUES; id++) {
-        hear(call_create_cq(id, size, cq_base(size, id)));
-        hear(call_create_sq(id, size, sq_base(size, id), id, id % 4));
-    }
+    for (uint64_t id = 0; id < QUEUES; id++)
+        create(id, size);
     if (size == LONG) {
         stagger();
     } else if (plan->outstanding > 0) {
@@ -178,6 +183,16 @@ static void replayed(void)
     at.digest = mixed(at.digest, r.records);
 }
 
+/* Queue 0 is never deleted. */
+static void created_again(void)
+{
+    for (uint64_t id = 1; id < QUEUES; id++) {
+        hear(call_delete_sq(id));
+        hear(call_delete_cq(id));
+        create(id, SHORT);
+    }
+}
+
 static struct heard run(const struct plan *plan, uint64_t batches)
 {
     for (uint64_t i = 0; i < batches; i++) {
@@ -189,6 +204,8 @@ static struct heard run(const struct plan *plan, uint64_t batches)
             writes(write_held, BELLRAFTER_DOORBELL);
         else if (plan->kind == REPLAYS)
             replayed();
+        else if (plan->kind == DELETES)
+            created_again();
         else
             commands(plan);
     }

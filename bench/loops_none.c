@@ -26,6 +26,16 @@ static inline uint64_t call_create_sq(uint64_t id, uint64_t size, uint64_t base,
     return nothing(id, size + base + cq + class);
 }
 
+static inline uint64_t call_delete_sq(uint64_t id)
+{
+    return nothing(id, 0);
+}
+
+static inline uint64_t call_delete_cq(uint64_t id)
+{
+    return nothing(id, 0);
+}
+
 static inline uint64_t call_tail(uint64_t id, uint64_t value)
 {
     return nothing(id, value);

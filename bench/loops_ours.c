@@ -22,6 +22,16 @@ static inline uint64_t call_create_sq(uint64_t id, uint64_t size, uint64_t base,
     return bellrafter_create_sq(state, memory, sizeof memory, id, size, base, cq, class);
 }
 
+static inline uint64_t call_delete_sq(uint64_t id)
+{
+    return bellrafter_delete_sq(state, id);
+}
+
+static inline uint64_t call_delete_cq(uint64_t id)
+{
+    return bellrafter_delete_cq(state, id);
+}
+
 static inline uint64_t call_tail(uint64_t id, uint64_t value)
 {
     return bellrafter_tail_write(state, id, value);

@@ -21,6 +21,16 @@ static inline uint64_t call_create_sq(uint64_t id, uint64_t size, uint64_t base,
     return create_sq(&controller, sizeof memory, id, size, base, cq, class);
 }
 
+static inline uint64_t call_delete_sq(uint64_t id)
+{
+    return delete_sq(&controller, id);
+}
+
+static inline uint64_t call_delete_cq(uint64_t id)
+{
+    return delete_cq(&controller, id);
+}
+
 static inline uint64_t call_tail(uint64_t id, uint64_t value)
 {
     return tail_write(&controller, id, value);

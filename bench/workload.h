@@ -23,7 +23,7 @@ enum {
     TRACE = 1024 * ROUND
 };
 
-enum kind { TAILS, HEADS, HELD, COMMANDS, PAIRS, REPLAYS };
+enum kind { TAILS, HEADS, HELD, COMMANDS, PAIRS, REPLAYS, DELETES };
 
 /*
  * What is timed. TAILS and HEADS: a batch moves the tail of each queue, or the head of each completion queue, on by one
@@ -32,7 +32,8 @@ enum kind { TAILS, HEADS, HELD, COMMANDS, PAIRS, REPLAYS };
  * tail that is held would mark its queue. COMMANDS and PAIRS: a batch submits to the busy queues, starts and finishes
  * all of it and releases the completions, while `outstanding` other commands stay outstanding: each finish takes the
  * oldest one. REPLAYS: a batch is one replay of a trace whose rounds go over the busy queues in turn, so often that
- * each queue ends at the slot where it began.
+ * each queue ends at the slot where it began. DELETES: a batch deletes each submission queue but 0 and then its
+ * completion queue, and creates both again as they were, before it goes on to the next.
  */
 struct plan {
     enum kind kind;

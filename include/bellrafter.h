@@ -1,8 +1,8 @@
 /*
  * Bellrafter: a proved reference model of NVMe queues, the calls for C programs.
  *
- *     A controller   create its queues, ring its doorbells, let it start and finish commands, replay a trace of such
- *                    calls, look at what it holds
+ *     A controller   create and delete its queues, ring its doorbells, let it start and finish commands, replay a trace
+ *                    of doorbell writes, starts and finishes, look at what it holds
  *     Entries        write and read submission and completion queue entries
  *     Checks         count the completions that wait in a ring, check a doorbell value, walk the pages of a PRP
  *
@@ -33,7 +33,8 @@
  * Memory. The memory that the rings lie in belongs to the caller, who hands it to each call that looks at it; an
  * address is an offset in it. It may be another one at each call, as long as it holds what the controller and the host
  * wrote: the rings are found in it by their addresses. The host writes submission entries into it between the calls;
- * the controller writes nothing but the 16 bytes of each completion.
+ * the controller writes nothing but the 16 bytes of each completion. The bytes of a deleted queue's ring keep what they
+ * hold and are bytes like any others, for another ring too.
  *
  * Buffers. A buffer is a pointer and then its length in bytes, and the pointer must be valid for that length: to
  * read where it is const, to read and write otherwise. NULL may be passed together with length 0 and with no other
@@ -48,8 +49,9 @@
  *
  * Time. No call waits, fails in another way than by its refusal number, or runs without limit: the ring reader looks
  * at no more than 1,023 entries, the page walk at no more than 257, each at most twice; a start looks at no more than
- * two entries, 32 queues and 64 outstanding commands. A replay takes the time of the calls that its records name, one
- * for each at most, and of reading 16 bytes and writing 16 for each.
+ * two entries, 32 queues and 64 outstanding commands, a deletion at no more than 16 queues or 64 outstanding commands.
+ * A replay takes the time of the calls that its records name, one for each at most, and of reading 16 bytes and writing
+ * 16 for each.
  *
  * The archive is for x86-64 Linux, with size_t of 64 bits.
  *
@@ -101,8 +103,8 @@ extern "C" {
 #endif
 
 #define BELLRAFTER_VERSION_MAJOR 2
-#define BELLRAFTER_VERSION_MINOR 0
-#define BELLRAFTER_VERSION "2.0"
+#define BELLRAFTER_VERSION_MINOR 1
+#define BELLRAFTER_VERSION "2.1"
 
 /* The limits. */
 #define BELLRAFTER_STATE_WORDS 623      /* words of a controller's state */
@@ -125,7 +127,8 @@ extern "C" {
 enum bellrafter_refusal {
     /* Done, no refusal: every call. */
     BELLRAFTER_DONE = 0,
-    /* The queue's own id is above 15: create_cq, create_sq, tail_write, head_write, look_sq, look_cq. */
+    /* The queue's own id is above 15: create_cq, create_sq, delete_sq, delete_cq, tail_write, head_write, look_sq,
+       look_cq. */
     BELLRAFTER_QUEUE_ID = 1,
     /* The queue exists already: create_cq, create_sq. */
     BELLRAFTER_QUEUE_EXISTS = 2,
@@ -143,7 +146,7 @@ enum bellrafter_refusal {
     BELLRAFTER_WRONG_CQ = 7,
     /* The class number is above 3: create_sq. */
     BELLRAFTER_CLASS = 8,
-    /* The queue does not exist: tail_write, head_write, look_sq, look_cq. */
+    /* The queue does not exist, or no longer: delete_sq, delete_cq, tail_write, head_write, look_sq, look_cq. */
     BELLRAFTER_NO_QUEUE = 9,
     /* The doorbell value is invalid, as the one held is: tail_write, head_write, tail_check, head_check. Also, a head
        or tail is not below the size: ring_read (which takes a head alone), tail_check, head_check. */
@@ -182,7 +185,13 @@ enum bellrafter_refusal {
     BELLRAFTER_RECORD_SHORT = 31,
     /* A start number above 18,446,744,073,709,551,614 would be needed, after a command for each number up to there:
        start. */
-    BELLRAFTER_NO_NUMBER = 32
+    BELLRAFTER_NO_NUMBER = 32,
+    /* The submission queue has outstanding commands: delete_sq. */
+    BELLRAFTER_SQ_BUSY = 33,
+    /* A submission queue names the completion queue: delete_cq. */
+    BELLRAFTER_CQ_NAMED = 34,
+    /* It is queue 0, which is never deleted, whether it exists or not: delete_sq, delete_cq. */
+    BELLRAFTER_ADMIN = 35
 };
 
 /* The calls that a trace's record names: replay. */
@@ -267,6 +276,12 @@ static inline const char *bellrafter_refusal_text(uint64_t refusal)
         return "the trace ends before its last record does";
     case BELLRAFTER_NO_NUMBER:
         return "too few start numbers are left";
+    case BELLRAFTER_SQ_BUSY:
+        return "the submission queue has outstanding commands";
+    case BELLRAFTER_CQ_NAMED:
+        return "a submission queue names the completion queue";
+    case BELLRAFTER_ADMIN:
+        return "queue 0 is never deleted";
     default:
         return "no refusal number";
     }
@@ -299,6 +314,11 @@ static inline const char *bellrafter_status_text(uint64_t status)
  * and is empty where head and tail are equal. The host writes submission entries and moves an SQ's tail; a start takes
  * them and moves the SQ's head; a finish posts a completion and moves the CQ's tail; the host reads it and moves the
  * CQ's head.
+ *
+ * Any queue but 0 can be deleted, and created again with the same numbers or others. A deleted queue is as one that
+ * never was: it does not exist for any call, no refusal looks at its ring, and its id and its bytes may be used again.
+ * The rest of the controller stays as it is: outstanding commands of other queues, turn holders, remainders, credits,
+ * and the next start number.
  *
  * Each command that a controller takes gets a start number: 0 for the first, and one more for each further one,
  * whichever queue it comes from. The two commands of a fused pair get two in order, the first half the lower. A start
@@ -363,7 +383,8 @@ struct bellrafter_command {
  * Whose turn it is. A group has a turn holder and a remainder, which is BELLRAFTER_NO_LIMIT where it has no limit; a
  * level has credit too. `holder` and `remainder` are those of all SQs under mechanism 0, of the urgent ones under
  * mechanism 1. At first each holder is 15, each remainder 0 and each credit its level's weight; mechanism 0 leaves the
- * levels so.
+ * levels so. They are numbers, which creating and deleting queues leaves alone: a holder may be the id of a queue that
+ * was deleted.
  */
 struct bellrafter_arbiter {
     uint64_t mechanism;
@@ -397,7 +418,8 @@ uint64_t bellrafter_controller_new(uint64_t *state, uint64_t mechanism, uint32_t
  * Creates a completion queue of `size` entries of 16 bytes at address `base`, with head and tail 0 and phase tag 1.
  *
  * Memory is looked at for its length alone. Nothing is written: a host that is going to tell new entries by their phase
- * tag clears the ring before.
+ * tag clears the ring before. It clears it again before the queue is created again, at whatever bytes: the completions
+ * and entries of deleted queues that lie there might be read as new ones.
  *
  * Answers the refusal number. In order: BELLRAFTER_QUEUE_ID; BELLRAFTER_QUEUE_EXISTS; BELLRAFTER_RING_SIZE;
  * BELLRAFTER_RING_BASE; BELLRAFTER_RING_MEMORY for the new ring; BELLRAFTER_RING_SHARED.
@@ -407,7 +429,8 @@ uint64_t bellrafter_create_cq(uint64_t *state, const uint8_t *memory, size_t mem
 
 /*
  * Creates a submission queue of `size` entries of 64 bytes at address `base`, with head and tail 0. Its completions
- * go to the completion queue `cq`: SQ 0 has CQ 0, and any other SQ any other CQ; several may share one.
+ * go to the completion queue `cq`: SQ 0 has CQ 0, and any other SQ any other CQ; several may share one. It is not
+ * marked, and nothing is submitted to it, whatever entries lie in the ring.
  *
  * `priority_class` is 0 urgent, 1 high, 2 medium or 3 low. It has no effect under mechanism 0, and none on SQ 0. Memory
  * is looked at for its length alone.
@@ -420,10 +443,35 @@ uint64_t bellrafter_create_sq(uint64_t *state, const uint8_t *memory, size_t mem
                               uint64_t base, uint64_t cq, uint64_t priority_class);
 
 /*
+ * Deletes submission queue `id`. Entries that were submitted to it and not started are dropped: no start takes them. A
+ * mark ends with its queue, and does not stop the deletion. The id may be created again, and the bytes of the ring may
+ * be used again, by this queue or another one.
+ *
+ * Completions stay where they were posted. Turn holders, remainders and credits stay as numbers: a submission queue
+ * that is created with the id of its group's holder goes on with the remainder left. Start numbers go on. No byte of
+ * memory is looked at or written.
+ *
+ * Answers the refusal number. In order: BELLRAFTER_QUEUE_ID; BELLRAFTER_ADMIN, also where SQ 0 does not exist;
+ * BELLRAFTER_NO_QUEUE; BELLRAFTER_SQ_BUSY until each command that was started from the queue is finished.
+ */
+uint64_t bellrafter_delete_sq(uint64_t *state, uint64_t id);
+
+/*
+ * Deletes completion queue `id`. Completions that wait in it do not stop the deletion: they lie in memory, unreleased,
+ * until something else is written there. The id may be created again, and the bytes of the ring may be used again, by
+ * this queue or another one. A queue that is created again begins at slot 0 with phase tag 1, and its reader does too;
+ * bellrafter_create_cq says what the host clears before. No byte of memory is looked at or written.
+ *
+ * Answers the refusal number. In order: BELLRAFTER_QUEUE_ID; BELLRAFTER_ADMIN, also where CQ 0 does not exist;
+ * BELLRAFTER_NO_QUEUE; BELLRAFTER_CQ_NAMED until each submission queue that names it is deleted.
+ */
+uint64_t bellrafter_delete_cq(uint64_t *state, uint64_t id);
+
+/*
  * The host writes `value` to the tail doorbell of submission queue `id`. bellrafter_tail_check says which values are
  * valid; the one held is not, which is the queue's tail: the last value accepted, 0 in a new queue. An invalid value,
- * the one held like any other, marks the queue for good: it takes no more tail writes and starts no more commands;
- * started ones may finish.
+ * the one held like any other, marks the queue until it is deleted: it takes no more tail writes and starts no more
+ * commands; started ones may finish.
  *
  * Answers the refusal number. In order: BELLRAFTER_QUEUE_ID; BELLRAFTER_NO_QUEUE; BELLRAFTER_MARKED, for any value;
  * BELLRAFTER_DOORBELL, which marks.
@@ -481,7 +529,7 @@ struct bellrafter_finish bellrafter_finish(uint64_t *state, uint8_t *memory, siz
 
 /*
  * Replays a trace: makes the calls that its records name, one after another, on the controller and the memory as they
- * stand, and writes an answer record for each record. The queues are created before.
+ * stand, and writes an answer record for each record. The queues are created before; no record creates or deletes any.
  *
  * A trace is records of 16 bytes, from its first byte on; the last one may be short, which is refused in its answer
  * record. A record:

@@ -54,7 +54,7 @@ void expect(const char *what, struct answer wanted, struct answer came);
 void require(bool met, const char *what);
 
 /* A call with the refusal numbers that it can give, each below REFUSALS. */
-enum { REFUSALS = 33 };
+enum { REFUSALS = 36 };
 struct refusals {
     const char *name;
     size_t count;
@@ -122,6 +122,7 @@ void read_only(struct guarded guarded, bool yes);
 /* The parts of the test. */
 void fixed_cases(void);
 void controller_cases(void);
+void delete_cases(void);
 void replay_cases(void);
 void all_turns(void);
 void random_calls(uint64_t calls);

@@ -106,6 +106,57 @@ uint64_t ref_create_sq(struct ref_controller *c, size_t memory_bytes, uint64_t i
     return refusal;
 }
 
+/*
+ * Deleting. "Order: 1, 35, 9, 33 or 34." A queue goes with its entries and its mark, and stands as one that never was;
+ * "Turn holders and remainders stay as numbers", and so does all else.
+ */
+
+static bool has_outstanding(const struct ref_controller *c, uint64_t id)
+{
+    for (int tag = 0; tag < 64; tag++) {
+        if (c->commands[tag].outstanding && c->commands[tag].sq == id)
+            return true;
+    }
+    return false;
+}
+
+uint64_t ref_delete_sq(struct ref_controller *c, uint64_t id)
+{
+    if (id > 15)
+        return BELLRAFTER_QUEUE_ID;
+    if (id == 0)
+        return BELLRAFTER_ADMIN;
+    if (!c->sqs[id].exists)
+        return BELLRAFTER_NO_QUEUE;
+    if (has_outstanding(c, id))
+        return BELLRAFTER_SQ_BUSY;
+    c->sqs[id] = (struct ref_sq){.exists = false};
+    return BELLRAFTER_DONE;
+}
+
+static bool named(const struct ref_controller *c, uint64_t cq)
+{
+    for (int i = 0; i < 16; i++) {
+        if (c->sqs[i].exists && c->sqs[i].cq == cq)
+            return true;
+    }
+    return false;
+}
+
+uint64_t ref_delete_cq(struct ref_controller *c, uint64_t id)
+{
+    if (id > 15)
+        return BELLRAFTER_QUEUE_ID;
+    if (id == 0)
+        return BELLRAFTER_ADMIN;
+    if (!c->cqs[id].exists)
+        return BELLRAFTER_NO_QUEUE;
+    if (named(c, id))
+        return BELLRAFTER_CQ_NAMED;
+    c->cqs[id] = (struct ref_cq){.exists = false};
+    return BELLRAFTER_DONE;
+}
+
 /* Doorbells. The plain checks of reference.c say which values are valid; here the size is always a good one. */
 
 uint64_t ref_tail_write(struct ref_controller *c, uint64_t id, uint64_t value)

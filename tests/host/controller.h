@@ -52,6 +52,8 @@ uint64_t ref_controller_new(struct ref_controller *c, uint64_t mechanism, uint32
 uint64_t ref_create_cq(struct ref_controller *c, size_t memory_bytes, uint64_t id, uint64_t size, uint64_t base);
 uint64_t ref_create_sq(struct ref_controller *c, size_t memory_bytes, uint64_t id, uint64_t size, uint64_t base,
                        uint64_t cq, uint64_t priority_class);
+uint64_t ref_delete_sq(struct ref_controller *c, uint64_t id);
+uint64_t ref_delete_cq(struct ref_controller *c, uint64_t id);
 uint64_t ref_tail_write(struct ref_controller *c, uint64_t id, uint64_t value);
 uint64_t ref_head_write(struct ref_controller *c, uint64_t id, uint64_t value);
 struct bellrafter_start ref_start(struct ref_controller *c, const uint8_t *memory, size_t memory_bytes);

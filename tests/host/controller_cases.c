@@ -1,10 +1,10 @@
 /*
  * Fixed cases of the controller: the paper's traced examples, every refusal, refusals that apply together, verdicts,
  * pairs, start numbers. Each call is made on the library and on the plain controller (twin.h), and the answer is also
- * held to the one that is written here.
+ * held to the one that is written here. Deletions have a file of their own (delete_cases.c).
  */
 #include "reference.h"
-#include "twin.h"
+#include "wanted.h"
 
 /* The layout that the library's side has: each field's place and width. A wrong one does not compile. */
 #define HOLDS(name, condition) typedef char name[(condition) ? 1 : -1]
@@ -83,97 +83,7 @@ HOLDS(submission_bytes, sizeof(struct bellrafter_submission) == 80);
 HOLDS(number_most, BELLRAFTER_NUMBER_MOST == UINT64_C(18446744073709551614));
 HOLDS(number_bytes, sizeof(BELLRAFTER_NUMBER_MOST) == 8);
 
-#define TOP UINT64_MAX /* 2^64 - 1 */
-
-enum { M = MEMORY };
-
 static struct saved here;
-
-static void want(const char *what, uint64_t wanted, uint64_t came)
-{
-    expect(what, of_number(wanted), of_number(came));
-}
-
-static void want_start(const char *what, struct bellrafter_start wanted, size_t lent)
-{
-    expect(what, of_start(wanted), of_start(twin_start(lent)));
-}
-
-static void refused_start(const char *what, size_t lent, uint64_t refusal)
-{
-    want_start(what, (struct bellrafter_start){.refusal = refusal}, lent);
-}
-
-static void want_finish(const char *what, size_t lent, uint64_t tag, uint64_t status, uint64_t slot, uint64_t number)
-{
-    expect(what, of_finish((struct bellrafter_finish){0, slot, number}),
-           of_finish(twin_finish(lent, tag, status, 0xDDCCBBAA)));
-}
-
-static void refused_finish(const char *what, size_t lent, uint64_t tag, uint64_t status, uint64_t refusal)
-{
-    expect(what, of_finish((struct bellrafter_finish){.refusal = refusal}),
-           of_finish(twin_finish(lent, tag, status, 0xDDCCBBAA)));
-}
-
-/* Where the case tests put the rings: a page for each queue. */
-static uint64_t sq_base(uint64_t id)
-{
-    return 4096 * id;
-}
-
-static uint64_t cq_base(uint64_t id)
-{
-    return 4096 * (16 + id);
-}
-
-static void make_cq(uint64_t id, uint64_t size)
-{
-    want("setting up a CQ", 0, twin_create_cq(M, id, size, cq_base(id)));
-}
-
-static void make_sq(uint64_t id, uint64_t size, uint64_t priority_class)
-{
-    want("setting up an SQ", 0, twin_create_sq(M, id, size, sq_base(id), id != 0, priority_class));
-}
-
-/* A fresh controller with CQs 0 and 1 over a memory of zeros. */
-static void fresh(uint64_t mechanism, uint32_t word, uint64_t cq_size)
-{
-    twin_clear();
-    want("setting up", 0, twin_new(mechanism, word));
-    make_cq(0, cq_size);
-    make_cq(1, cq_size);
-}
-
-/* Writes an entry at the tail and moves the tail. */
-static void submit(uint64_t id, struct submitted s)
-{
-    const struct ref_sq *sq = &plain.sqs[id];
-
-    twin_submit(sq->base + 64 * sq->tail, s);
-    want("submitting", 0, twin_tail(id, (sq->tail + 1) % sq->size));
-}
-
-static void submit_plain(uint64_t id, uint64_t cid)
-{
-    submit(id, (struct submitted){.opc = 2, .cid = cid, .others = TOP});
-}
-
-static void submit_pair(uint64_t id, uint64_t first, uint64_t second)
-{
-    submit(id, (struct submitted){.opc = 5, .fuse = 1, .cid = first, .nsid = 1, .slba = 9, .nlb = 3});
-    submit(id, (struct submitted){.opc = 1, .fuse = 2, .cid = second, .nsid = 1, .slba = 9, .nlb = 3});
-}
-
-/* The completion in a slot of CQ `id`. */
-static void want_posted(const char *what, uint64_t id, uint64_t slot, struct bellrafter_completion wanted)
-{
-    const uint8_t *entry = plain_memory + plain.cqs[id].base + 16 * slot;
-
-    compare_memories();
-    expect(what, of_completion(wanted), of_completion(bellrafter_completion_read(entry, 16)));
-}
 
 /* New controllers. */
 
@@ -828,11 +738,6 @@ static void posting_cases(void)
  * in order". The cases above have them too; that 13 uses none is among start_cases.
  */
 
-static void want_command(const char *what, uint64_t tag, struct bellrafter_command wanted)
-{
-    expect(what, of_command(wanted), of_command(twin_look_command(tag)));
-}
-
 static void number_cases(void)
 {
     fresh(0, 0, 64);
@@ -1188,7 +1093,7 @@ static void text_cases(void)
     snprintf(version, sizeof version, "%d.%d", BELLRAFTER_VERSION_MAJOR, BELLRAFTER_VERSION_MINOR);
     require(strcmp(version, BELLRAFTER_VERSION) == 0, "the version is that of its two numbers");
     for (uint64_t a = 0; a <= 40; a++) {
-        bool number = a <= 23 || (a >= 30 && a <= 32);
+        bool number = a <= 23 || (a >= 30 && a <= 35);
         bool none = strcmp(bellrafter_refusal_text(a), bellrafter_refusal_text(TOP)) == 0;
         require(strlen(bellrafter_refusal_text(a)) > 0, "a refusal has a text");
         require(number != none, "a text for refusal numbers, another one for all others");
@@ -1197,6 +1102,9 @@ static void text_cases(void)
     }
     require(strcmp(bellrafter_refusal_text(0), "done") == 0, "done");
     require(strcmp(bellrafter_refusal_text(32), "too few start numbers are left") == 0, "32");
+    require(strcmp(bellrafter_refusal_text(33), "the submission queue has outstanding commands") == 0, "33");
+    require(strcmp(bellrafter_refusal_text(34), "a submission queue names the completion queue") == 0, "34");
+    require(strcmp(bellrafter_refusal_text(35), "queue 0 is never deleted") == 0, "35");
     require(strcmp(bellrafter_status_text(0x02), "Invalid Field in Command") == 0, "02h");
     require(strcmp(bellrafter_status_text(0x03), "Command ID Conflict") == 0, "03h");
     require(strcmp(bellrafter_status_text(0x09), "Command Aborted due to Failed Fused Command") == 0, "09h");

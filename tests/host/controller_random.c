@@ -45,6 +45,19 @@
     X(TAIL_HELD_MARKED, "11, the tail held") \
     X(HEAD_HELD, "10, the head held") \
     X(SHORT_DONE, "done in a part of memory") \
+    X(DELETED_UNSTARTED, "SQ deleted, some not started") \
+    X(DELETED_MARKED, "SQ deleted, marked") \
+    X(DELETED_BESIDE, "SQ deleted, others outstanding") \
+    X(DELETED_HOLDER, "SQ deleted, its turn left") \
+    X(DELETED_UNREAD, "CQ deleted, some unread") \
+    X(DELETED_PHASE_0, "CQ deleted in an even pass") \
+    X(SQ_AGAIN, "SQ created again") \
+    X(HOLDER_AGAIN, "SQ created again keeps turn") \
+    X(CQ_AGAIN, "CQ created again") \
+    X(SQ_ON_SQ, "SQ where an SQ was") \
+    X(SQ_ON_CQ, "SQ where a CQ was") \
+    X(CQ_ON_SQ, "CQ where an SQ was") \
+    X(CQ_ON_CQ, "CQ where a CQ was") \
     X(BACK, "saved states gone back to")
 
 enum thing {
@@ -71,12 +84,14 @@ static void happens(enum thing thing, bool yes)
  * The calls with the refusal numbers that each can give, and how often it gave them. 32 is not among them: no run is so
  * long that a start gives it.
  */
-enum { NEW, CREATE_CQ, CREATE_SQ, TAIL, HEAD, START, FINISH, CALLS };
+enum { NEW, CREATE_CQ, CREATE_SQ, DELETE_SQ, DELETE_CQ, TAIL, HEAD, START, FINISH, CALLS };
 
 static const struct refusals refusals_of[CALLS] = {
     {"controller_new", 2, {0, 23}},
     {"create_cq", 7, {0, 1, 2, 3, 4, 5, 6}},
     {"create_sq", 9, {0, 1, 2, 8, 7, 3, 4, 5, 6}},
+    {"delete_sq", 5, {0, 1, 35, 9, 33}},
+    {"delete_cq", 5, {0, 1, 35, 9, 34}},
     {"tail_write", 5, {0, 1, 9, 11, 10}},
     {"head_write", 4, {0, 1, 9, 10}},
     {"start", 4, {0, 5, 12, 13}},
@@ -105,8 +120,8 @@ static void report(void)
     }
 }
 
-/* The start of so many pages that no ring lies in. */
-static uint64_t draw_base(uint64_t pages)
+/* The start of so many pages that no ring lies in, the first ones from page `from` on. */
+static uint64_t draw_base(uint64_t from, uint64_t pages)
 {
     bool used[MEMORY_PAGES] = {false};
 
@@ -118,7 +133,6 @@ static uint64_t draw_base(uint64_t pages)
         for (uint64_t at = plain.cqs[i].base; at < cq_end; at += 4096)
             used[at / 4096] = true;
     }
-    uint64_t from = below(MEMORY_PAGES);
     for (uint64_t i = 0; i < MEMORY_PAGES; i++) {
         uint64_t page = (from + i) % MEMORY_PAGES, free = 0;
         while (free < pages && page + free < MEMORY_PAGES && !used[page + free])
@@ -134,7 +148,7 @@ static uint64_t draw_size(void)
     return once_in(64) ? 1024 : once_in(32) ? 2 + below(1023) : 2 + below(7);
 }
 
-/* The calls. `damage`: one in so many arguments is a wrong one. */
+/* The calls. `damage`: one in so many arguments is a wrong one. `from`: the page from which a new ring is placed. */
 
 static uint32_t draw_word(void)
 {
@@ -188,10 +202,15 @@ static uint64_t damaged_base(void)
     return bases[below(COUNT_OF(bases))];
 }
 
-static void create_cq(uint64_t id, uint64_t damage)
+static uint64_t any_page(void)
+{
+    return below(MEMORY_PAGES);
+}
+
+static void create_cq(uint64_t id, uint64_t from, uint64_t damage)
 {
     uint64_t size = once_in(damage) ? damaged_size() : draw_size();
-    uint64_t base = once_in(damage) ? damaged_base() : draw_base((16 * (size % 1025) + 4095) / 4096);
+    uint64_t base = once_in(damage) ? damaged_base() : draw_base(from, (16 * (size % 1025) + 4095) / 4096);
     size_t lent = once_in(damage) ? draw_lent() : MEMORY;
 
     if (once_in(damage))
@@ -201,10 +220,10 @@ static void create_cq(uint64_t id, uint64_t damage)
     happens(SHORT_DONE, refusal == 0 && lent < MEMORY);
 }
 
-static void create_sq(uint64_t id, uint64_t damage)
+static void create_sq(uint64_t id, uint64_t from, uint64_t damage)
 {
     uint64_t size = once_in(damage) ? damaged_size() : draw_size();
-    uint64_t base = once_in(damage) ? damaged_base() : draw_base((64 * (size % 1025) + 4095) / 4096);
+    uint64_t base = once_in(damage) ? damaged_base() : draw_base(from, (64 * (size % 1025) + 4095) / 4096);
     size_t lent = once_in(damage) ? draw_lent() : MEMORY;
     uint64_t cq = id == 0 ? 0 : draw_cq(1);
     uint64_t priority_class = once_in(damage) ? beyond(4) : below(4);
@@ -238,12 +257,8 @@ static void head(uint64_t id, uint64_t value)
 }
 
 /* The host writes entries and moves the tail past them, or past some of them; past none, it rarely writes the tail. */
-static void submit(void)
+static void submit_to(uint64_t id)
 {
-    uint64_t id = draw_sq(16);
-
-    if (id == 16 || plain.sqs[id].marked)
-        return;
     const struct ref_sq *sq = &plain.sqs[id];
     uint64_t room = room_in(sq);
     uint64_t count = below((room < 5 ? room : 5) + 1), moved = once_in(8) ? below(count + 1) : count;
@@ -251,6 +266,14 @@ static void submit(void)
     draw_entries(id, count);
     if (moved > 0 || once_in(512))
         tail(id, (sq->tail + moved) % sq->size);
+}
+
+static void submit(void)
+{
+    uint64_t id = draw_sq(16);
+
+    if (id < 16 && !plain.sqs[id].marked)
+        submit_to(id);
 }
 
 /* A tail write that may be wrong. */
@@ -389,6 +412,123 @@ static void finish(uint64_t damage)
         note_posted(&command, &cq, status);
 }
 
+/* Deletions. Each of the two answers whether it was done. */
+
+/* Whether the SQ holds the turn of its group, and some of it is left. */
+static bool holds_turn(uint64_t id)
+{
+    const struct ref_group *group = &plain.groups[plain.mechanism == 0 ? GROUP : plain.sqs[id].priority_class];
+
+    return plain.sqs[id].exists && group->holder == id && group->remainder > 0;
+}
+
+static bool delete_sq(uint64_t id)
+{
+    struct ref_sq was = plain.sqs[id % 16];
+    bool holder = holds_turn(id % 16);
+    uint64_t refusal = twin_delete_sq(id);
+
+    answers(DELETE_SQ, refusal);
+    happens(DELETED_UNSTARTED, refusal == 0 && was.head != was.tail);
+    happens(DELETED_MARKED, refusal == 0 && was.marked);
+    happens(DELETED_BESIDE, refusal == 0 && free_tags() < 64);
+    happens(DELETED_HOLDER, refusal == 0 && holder);
+    return refusal == 0;
+}
+
+static bool delete_cq(uint64_t id)
+{
+    struct ref_cq was = plain.cqs[id % 16];
+    uint64_t refusal = twin_delete_cq(id);
+
+    answers(DELETE_CQ, refusal);
+    happens(DELETED_UNREAD, refusal == 0 && was.head != was.tail);
+    happens(DELETED_PHASE_0, refusal == 0 && was.phase == 0);
+    return refusal == 0;
+}
+
+/* An SQ other than 0 of which no command is outstanding, if there is one; often it holds a turn. */
+static uint64_t idle_sq(void)
+{
+    bool busy[16] = {true};
+    uint64_t from = once_in(2) ? plain.groups[below(GROUPS)].holder : below(16);
+
+    for (int tag = 0; tag < 64; tag++)
+        busy[plain.commands[tag].sq] |= plain.commands[tag].outstanding;
+    for (uint64_t i = 0; i < 16; i++) {
+        uint64_t id = (from + i) % 16;
+        if (plain.sqs[id].exists && !busy[id])
+            return id;
+    }
+    return draw_sq(0);
+}
+
+/* A deleted SQ is created again, and used at once: it may hold the turn still. */
+static void create_sq_again(uint64_t id, uint64_t from, uint64_t damage)
+{
+    create_sq(id, from, damage);
+    if (!plain.sqs[id].exists)
+        return;
+    bool holder = holds_turn(id);
+    submit_to(id);
+    start(damage);
+    happens(SQ_AGAIN, true);
+    happens(HOLDER_AGAIN, holder && plain.sqs[id].head != 0);
+}
+
+static void renew_sq(uint64_t id, uint64_t damage)
+{
+    uint64_t base = plain.sqs[id].base;
+
+    if (!delete_sq(id) || once_in(4))
+        return;
+    create_sq_again(id, once_in(2) ? base / 4096 : any_page(), damage);
+    happens(SQ_ON_SQ, plain.sqs[id].exists && plain.sqs[id].base == base);
+}
+
+/*
+ * A cleaning shift: the SQs that name a CQ are deleted, and then the CQ. As a rule all of them are created again, also
+ * where another of them was.
+ */
+static void clean(uint64_t cq, uint64_t damage)
+{
+    uint64_t base = plain.cqs[cq].base, sq_base = base;
+    bool gone[16] = {false};
+
+    for (uint64_t id = 1; id < 16; id++) {
+        uint64_t at = plain.sqs[id].base;
+        gone[id] = plain.sqs[id].exists && plain.sqs[id].cq == cq && delete_sq(id);
+        sq_base = gone[id] ? at : sq_base;
+    }
+    if (delete_cq(cq) && !once_in(4)) {
+        create_cq(cq, (once_in(2) ? sq_base : base) / 4096, damage);
+        happens(CQ_AGAIN, plain.cqs[cq].exists);
+        happens(CQ_ON_SQ, plain.cqs[cq].exists && plain.cqs[cq].base == sq_base && sq_base != base);
+        happens(CQ_ON_CQ, plain.cqs[cq].exists && plain.cqs[cq].base == base);
+    }
+    for (uint64_t id = 1; id < 16; id++) {
+        if (!gone[id] || once_in(4))
+            continue;
+        create_sq_again(id, (once_in(2) ? sq_base : base) / 4096, damage);
+        happens(SQ_ON_CQ, plain.sqs[id].exists && plain.sqs[id].base == base);
+    }
+}
+
+/* A deletion, whatever the id, or one that is likely to be done. */
+static void delete_some(uint64_t damage)
+{
+    uint64_t any = once_in(2) ? beyond(16) : below(16);
+
+    if (once_in(6))
+        delete_sq(any);
+    else if (once_in(6))
+        delete_cq(any);
+    else if (once_in(2))
+        clean(once_in(2) ? draw_cq(0) : plain.sqs[idle_sq()].cq, damage);
+    else
+        renew_sq(once_in(4) ? draw_sq(0) : idle_sq(), damage);
+}
+
 /* One step of a mood: how often, out of 64, entries are submitted, commands started, finished, completions released. */
 struct mood {
     uint64_t submits, starts, finishes, releases, damage;
@@ -418,10 +558,12 @@ static void step(const struct mood *mood)
         write_head();
     else if (once_in(8))
         write_tail();
+    else if (once_in(3))
+        delete_some(mood->damage);
     else if (once_in(2))
-        create_cq(unused_cq(), 6);
+        create_cq(unused_cq(), any_page(), 6);
     else
-        create_sq(unused_sq(), 6);
+        create_sq(unused_sq(), any_page(), 6);
 }
 
 static void steps(uint64_t count)
@@ -442,13 +584,13 @@ static void set_up(void)
 
     make_new(!once_in(32));
     if (!once_in(4))
-        create_cq(0, 64);
+        create_cq(0, any_page(), 64);
     for (uint64_t i = 0; i < cqs; i++)
-        create_cq(1 + below(15), 64);
+        create_cq(1 + below(15), any_page(), 64);
     if (!once_in(3))
-        create_sq(0, 64);
+        create_sq(0, any_page(), 64);
     for (uint64_t i = 0; i < sqs; i++)
-        create_sq(1 + below(15), 64);
+        create_sq(1 + below(15), any_page(), 64);
     for (int i = 1; i < 16; i++) {
         for (int j = 1; j < i; j++)
             sharing += plain.sqs[i].exists && plain.sqs[j].exists && plain.sqs[i].cq == plain.sqs[j].cq;

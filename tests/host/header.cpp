@@ -29,8 +29,10 @@ int use_the_header(uint64_t *state, uint8_t *memory, size_t memory_bytes)
     struct bellrafter_cq cq = bellrafter_look_cq(state, sq.cq);
     struct bellrafter_command k = bellrafter_look_command(state, BELLRAFTER_TAGS - 1);
     struct bellrafter_arbiter a = bellrafter_look_arbiter(state);
+    refusals += bellrafter_delete_sq(state, 1) + bellrafter_delete_cq(state, 1);
     const char *texts[] = {bellrafter_refusal_text(refusals), bellrafter_status_text(k.verdict), BELLRAFTER_VERSION,
-                           bellrafter_refusal_text(BELLRAFTER_NO_NUMBER)};
+                           bellrafter_refusal_text(BELLRAFTER_NO_NUMBER), bellrafter_refusal_text(BELLRAFTER_SQ_BUSY),
+                           bellrafter_refusal_text(BELLRAFTER_CQ_NAMED), bellrafter_refusal_text(BELLRAFTER_ADMIN)};
     uint8_t results[12 * BELLRAFTER_PAGES_MOST] = {0};
     uint64_t numbers[] = {f.slot, p.pages, cq.phase, a.low_credit, BELLRAFTER_NO_LIMIT, BELLRAFTER_STATUS_MOST,
                           BELLRAFTER_STATE_WORDS, BELLRAFTER_CLASSES, BELLRAFTER_BASE_UNIT, results[0],

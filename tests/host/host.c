@@ -19,6 +19,7 @@ int main(int argc, char **argv)
     open_twin();
     fixed_cases();
     controller_cases();
+    delete_cases();
     replay_cases();
     printf("fixed cases: %" PRIu64 " passed, %" PRIu64 " calls of the controller\n", passed, calls_made);
     all_turns();

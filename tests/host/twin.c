@@ -143,20 +143,22 @@ static void remember(void)
 
 /* Looks: the state may not change. */
 
-static void look_sq(uint64_t id)
+static struct bellrafter_sq look_sq(uint64_t id)
 {
     protect(true, true);
     struct bellrafter_sq came = bellrafter_look_sq(state, id);
     protect(false, true);
     settle(&(struct call){"look_sq", 1, {id}}, of_sq(ref_look_sq(&plain, id)), of_sq(came), false);
+    return came;
 }
 
-static void look_cq(uint64_t id)
+static struct bellrafter_cq look_cq(uint64_t id)
 {
     protect(true, true);
     struct bellrafter_cq came = bellrafter_look_cq(state, id);
     protect(false, true);
     settle(&(struct call){"look_cq", 1, {id}}, of_cq(ref_look_cq(&plain, id)), of_cq(came), false);
+    return came;
 }
 
 static struct bellrafter_command look_command(uint64_t tag)
@@ -169,12 +171,13 @@ static struct bellrafter_command look_command(uint64_t tag)
     return came;
 }
 
-static void look_arbiter(void)
+static struct bellrafter_arbiter look_arbiter(void)
 {
     protect(true, true);
     struct bellrafter_arbiter came = bellrafter_look_arbiter(state);
     protect(false, true);
     settle(&(struct call){"look_arbiter", 0, {0}}, of_arbiter(ref_look_arbiter(&plain)), of_arbiter(came), false);
+    return came;
 }
 
 void look_at_all(void)
@@ -196,10 +199,28 @@ void look_at_all(void)
     look_arbiter();
 }
 
+struct bellrafter_sq twin_look_sq(uint64_t id)
+{
+    remember();
+    return look_sq(id);
+}
+
+struct bellrafter_cq twin_look_cq(uint64_t id)
+{
+    remember();
+    return look_cq(id);
+}
+
 struct bellrafter_command twin_look_command(uint64_t tag)
 {
     remember();
     return look_command(tag);
+}
+
+struct bellrafter_arbiter twin_look_arbiter(void)
+{
+    remember();
+    return look_arbiter();
 }
 
 /* The calls. Each is followed by looks at what it may have changed. */
@@ -247,6 +268,31 @@ uint64_t twin_create_sq(size_t lent, uint64_t id, uint64_t size, uint64_t base, 
            came == 0);
     remember();
     look_sq(id);
+    return came;
+}
+
+uint64_t twin_delete_sq(uint64_t id)
+{
+    struct call call = {"delete_sq", 1, {id}};
+
+    remember();
+    uint64_t came = bellrafter_delete_sq(state, id);
+    settle(&call, of_number(ref_delete_sq(&plain, id)), of_number(came), came == 0);
+    remember();
+    look_sq(id);
+    look_arbiter();
+    return came;
+}
+
+uint64_t twin_delete_cq(uint64_t id)
+{
+    struct call call = {"delete_cq", 1, {id}};
+
+    remember();
+    uint64_t came = bellrafter_delete_cq(state, id);
+    settle(&call, of_number(ref_delete_cq(&plain, id)), of_number(came), came == 0);
+    remember();
+    look_cq(id);
     return came;
 }
 

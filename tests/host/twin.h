@@ -33,6 +33,8 @@ void guard_reads(bool yes);
 uint64_t twin_new(uint64_t mechanism, uint32_t word);
 uint64_t twin_create_cq(size_t lent, uint64_t id, uint64_t size, uint64_t base);
 uint64_t twin_create_sq(size_t lent, uint64_t id, uint64_t size, uint64_t base, uint64_t cq, uint64_t priority_class);
+uint64_t twin_delete_sq(uint64_t id);
+uint64_t twin_delete_cq(uint64_t id);
 uint64_t twin_tail(uint64_t id, uint64_t value);
 uint64_t twin_head(uint64_t id, uint64_t value);
 struct bellrafter_start twin_start(size_t lent);
@@ -50,7 +52,10 @@ struct bellrafter_replay twin_replay(const char *what, size_t lent, const uint8_
 
 /* All look_ calls, for every id and tag and some beyond, one expectation each; and one of them alone. */
 void look_at_all(void);
+struct bellrafter_sq twin_look_sq(uint64_t id);
+struct bellrafter_cq twin_look_cq(uint64_t id);
 struct bellrafter_command twin_look_command(uint64_t tag);
+struct bellrafter_arbiter twin_look_arbiter(void);
 
 /* The fields of a submission entry that the controller looks at, and one number that fills the others. */
 struct submitted {

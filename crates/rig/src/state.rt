@@ -2,7 +2,8 @@
 ghost use mathlib.Core.Path.{_≡_};
 ghost use Rattle.le.specs.Memory.{Memory};
 ghost use Rattle.controller.specs.Answers.{numberOf};
-ghost use Rattle.controller.specs.Calls.{perform, createCq, createSq, tailWrite, headWrite, start as startCall, finish as finishCall};
+ghost use Rattle.controller.specs.Calls.{perform, createCq, createSq, deleteCq, deleteSq, tailWrite, headWrite};
+ghost use Rattle.controller.specs.Calls.{start as startCall, finish as finishCall};
 ghost use Rattle.controller.specs.State.{newRefusal, newController};
 ghost use Rattle.store.specs.Held.{held, Holds, Reached};
 ghost use Rattle.replay.specs.Replay.{replay};
@@ -137,6 +138,24 @@ pub extern "C" fn bellrafter_create_sq(
         (r ≡ numberOf (o .answer)) × Holds (now (state .exit)) (o .controller)) ⌝ }
 {
     queues::create::create_sq(state, memory, id, size, base, cq, class)
+}
+
+#[no_mangle]
+pub extern "C" fn bellrafter_delete_cq(state: &mut [u64; WORDS], id: u64) -> u64
+    requires { ⌜ Reached (now state) ⌝ }
+    ensures { λ r. ⌜ ((m : Memory) → let o = perform (held (now (state .entry))) m (deleteCq id) in
+        (r ≡ numberOf (o .answer)) × Holds (now (state .exit)) (o .controller)) ⌝ }
+{
+    queues::delete::delete_cq(state, id)
+}
+
+#[no_mangle]
+pub extern "C" fn bellrafter_delete_sq(state: &mut [u64; WORDS], id: u64) -> u64
+    requires { ⌜ Reached (now state) ⌝ }
+    ensures { λ r. ⌜ ((m : Memory) → let o = perform (held (now (state .entry))) m (deleteSq id) in
+        (r ≡ numberOf (o .answer)) × Holds (now (state .exit)) (o .controller)) ⌝ }
+{
+    queues::delete::delete_sq(state, id)
 }
 
 #[no_mangle]
