@@ -1,15 +1,16 @@
 -- Demand 3 of a history in which the host writes to other memory between the calls: a completion queue that is not created by the first
 -- call, an I/O queue under mechanism 1, a fused pair whose first half fails, and refused calls among the others. Assumes nothing.
-use Prim.Native.Nat.{ℕ, zero, suc, _*_, _<_, _^_}
-use mathlib.Core.Bool.{Bool, true, false, _&&_, true≢false}
+use Prim.Native.Nat.{ℕ, zero, suc, _<_, _^_}
+use mathlib.Core.Bool.{Bool, true, false, not, _&&_, _||_, true≢false}
 use mathlib.Core.List.{List, [], _∷_, _++_, map, foldl}
-use mathlib.Core.Path.{_≡_, refl, sym, _∙_}
+use mathlib.Core.Logic.{⊎-elim}
+use mathlib.Core.Path.{_≡_, refl, sym, ap₂, _∙_}
 use native.Mathlib.Omega.{arith}
-use lib.Dec.{ltb, lit<}
+use lib.Dec.{ltb, eqb, lit<}
 use lib.ListN.{replicate}
-use borrow.Author.Tests.{ltb-true}
+use borrow.Author.Tests.{ltb-true, eqb-true}
 use Rattle.rules.specs.Rules.{settle}
-use Rattle.rules.proofs.Tests.{and-true}
+use Rattle.rules.proofs.Tests.{and-true, same-or-not}
 use Rattle.bits.specs.Bits.{isSet, first, count, maskOf, someBelow}
 use Rattle.bits.specs.Tags.{takenOne, takenTwo, givenBack}
 use Rattle.le.specs.Le.{le, leAt}
@@ -23,7 +24,7 @@ use Rattle.arbiter.specs.Turns as turns
 use Rattle.arbiter.specs.Arbiter as arbiter
 use Rattle.arbiter.specs.Word as word
 use Rattle.controller.specs.Controller.{Controller}
-use Rattle.controller.specs.State.{outstanding, freshController}
+use Rattle.controller.specs.State.{cqAt, outstanding, freshController}
 use Rattle.controller.specs.Rings.{someRing, shareByte, shares, outside}
 use Rattle.controller.specs.Create as create
 use Rattle.controller.specs.Doorbell as doorbell
@@ -33,8 +34,8 @@ use Rattle.controller.specs.Finishing as finishing
 use Rattle.controller.specs.Answers.{Answer, refused, done, started, finished}
 use Rattle.controller.specs.Calls.{Call, createCq, createSq, tailWrite, headWrite, start, finish, resultOf, perform}
 use Rattle.controller.specs.Calls.{Reachable, fresh, after}
-use Rattle.controller.specs.Steps.{Given, steps}
-use Rattle.controller.specs.Demand.{Clean, Typed, reader, History, ringBytes, sizeOf, headWrites, unreleased}
+use Rattle.controller.specs.Steps.{Given, Step, steps}
+use Rattle.controller.specs.Demand.{ringOf, Kept, Clean, Typed, reader, History, ringBytes, sizeOf, headWrites, unreleased}
 use Rattle.controller.proofs.Made.{made, of-commands}
 use Rattle.controller.proofs.Validity.{valid}
 use Rattle.controller.proofs.Demand.{demand3}
@@ -79,6 +80,72 @@ shared-typed {c} m (x ∷ xs) r b e =
     let w = bytes-put m (x .place) (x .bytes) b (low-bytes (x .bytes) (k .0)) in
     let o = of-commands (made c n (valid r .free-64) (x .call)) in
     (w, ltb-true _ (2 ^ 32) (k .1), shared-typed _ xs (after r n (x .call)) (call-bytes w o) (h .1))
+
+-- ---- demand 3's premise, tested at every step: enough, and more than is asked of a queue that a later call deletes
+
+no : {A : Type 0} → false ≡ true → A
+no e = absurd (true≢false (sym e))
+
+or-yes : (a b : Bool) → a ≡ true → (not a || b) ≡ true → b ≡ true
+or-yes true b h e = e
+or-yes false b h e = no h
+
+or-no : (a b : Bool) → a ≡ false → (a || b) ≡ true → b ≡ true
+or-no true b h e = no (sym h)
+or-no false b h e = e
+
+abbrev pub same : List ℕ → List ℕ → Bool
+same [] [] = true
+same [] (y ∷ ys) = false
+same (x ∷ xs) [] = false
+same (x ∷ xs) (y ∷ ys) = eqb x y && same xs ys
+
+same-is : (xs ys : List ℕ) → same xs ys ≡ true → xs ≡ ys
+same-is [] [] e = refl
+same-is [] (y ∷ ys) e = no e
+same-is (x ∷ xs) [] e = no e
+same-is (x ∷ xs) (y ∷ ys) e = let h = and-true (eqb x y) (same xs ys) e in ap₂ (λ z zs. z ∷ zs) (eqb-true x y (h .0)) (same-is xs ys (h .1))
+
+-- the phase tags of the first n slots are 0
+abbrev pub clear : List ℕ → ℕ → Bool
+clear ring zero = true
+clear ring (suc n) = eqb (phaseIn ring n) 0 && clear ring n
+
+clear-is : (ring : List ℕ) (n : ℕ) → clear ring n ≡ true → (i : ℕ) → i < n → phaseIn ring i ≡ 0
+clear-is ring zero e i h = absurd (omega arith)
+clear-is ring (suc n) e i h =
+    let k = and-true (eqb (phaseIn ring n) 0) (clear ring n) e in
+    ⊎-elim (λ (y : i ≡ n). rw y (eqb-true _ 0 (k .0))) (λ (d : i ≡ n → ⊥). clear-is ring n (k .1) i (omega arith)) (same-or-not i n)
+
+module _ (q : ℕ) where
+  abbrev pub keeps : Controller → Memory → Memory → Bool
+  keeps c left m = not (cqAt c q .ring .exists) || same (ringOf c q m) (ringOf c q left)
+
+  keeps-is : (c : Controller) (left m : Memory) → keeps c left m ≡ true → Kept c q left m
+  keeps-is c left m e h = same-is _ _ (or-yes (cqAt c q .ring .exists) _ h e)
+
+  abbrev pub clears : Memory → Controller → Controller → Bool
+  clears m c d = cqAt c q .ring .exists || (not (cqAt d q .ring .exists) || clear (ringOf d q m) (cqAt d q .ring .size))
+
+  abbrev pub test : Controller → Memory → List Step → Memory → Bool
+  test c left [] seen = keeps c left seen
+  test c left (s ∷ ss) seen =
+      keeps c left (s .given .memory)
+      && (clears (s .given .memory) c (s .outcome .controller) && test (s .outcome .controller) (s .outcome .memory) ss seen)
+
+  pub tested : (c : Controller) (left : Memory) (ss : List Step) (seen : Memory) → test c left ss seen ≡ true → Clean q c left ss seen
+  tested c left [] seen e = keeps-is c left seen e
+  tested c left (s ∷ ss) seen e =
+      let m = s .given .memory in
+      let d = s .outcome .controller in
+      let h = and-true (keeps c left m) _ e in
+      let k = and-true (clears m c d) _ (h .1) in (
+        λ p. (
+          keeps-is c left m (h .0),
+          λ n y. clear-is _ _ (or-yes (cqAt d q .ring .exists) _ y (or-no (cqAt c q .ring .exists) _ n (k .0))),
+        ),
+        tested d (s .outcome .memory) ss seen (k .1),
+      )
 
 -- ---- the example
 
@@ -135,15 +202,6 @@ c = freshController true 0
 unfoldable pub seen : Memory
 seen = put (foldl (λ n s. s .outcome .memory) memory (steps c (shared c memory calls))) 4355 (9 ∷ [])
 
-no : {A : Type 0} → false ≡ true → A
-no e = absurd (true≢false (sym e))
-
-clear : (i : ℕ) → i < 2 → phaseIn (part memory 0 (16 * 2)) i ≡ 0
-unfolding memory phaseIn slotIn part phaseTag leAt
-clear zero h = refl
-clear (suc zero) h = refl
-clear (suc (suc i)) h = absurd (omega arith)
-
 -- the ring has not been created yet; it is created on bytes without a phase tag; from then on the host leaves it alone
 pub clean : Clean 1 c [] (steps c (shared c memory calls)) seen
 unfolding memory calls seen settle isSet first count maskOf someBelow takenOne takenTwo givenBack le leAt part put completionBytes
@@ -153,44 +211,8 @@ unfolding memory calls seen settle isSet first count maskOf someBelow takenOne t
     starting.isPair starting.oneTaken starting.pairTaken starting.takeOne starting.takePair starting.start finishing.full
     finishing.finishRefusal finishing.statusOf finishing.released finishing.unlinked finishing.posted finishing.finishedController
     finishing.finish arbiter.choice arbiter.byGroup arbiter.byWeight arbiter.byLevel arbiter.toppedUp arbiter.someWaits
-    arbiter.someReady arbiter.levelTurn arbiter.ready turns.turn turns.nextAfter word.burstOf
-clean = (
-  λ p. (λ e. no e, λ e y. no y),
-  (
-    λ p. (λ e. no e, λ e y. clear),
-    (
-      λ p. (λ e. refl, λ e. no (sym e)),
-      (
-        λ p. (λ e. refl, λ e. no (sym e)),
-        (
-          λ p. (λ e. refl, λ e. no (sym e)),
-          (
-            λ p. (λ e. refl, λ e. no (sym e)),
-            (
-              λ p. (λ e. refl, λ e. no (sym e)),
-              (
-                λ p. (λ e. refl, λ e. no (sym e)),
-                (
-                  λ p. (λ e. refl, λ e. no (sym e)),
-                  (
-                    λ p. (λ e. refl, λ e. no (sym e)),
-                    (
-                      λ p. (λ e. refl, λ e. no (sym e)),
-                      (
-                        λ p. (λ e. refl, λ e. no (sym e)),
-                        λ e. refl,
-                      ),
-                    ),
-                  ),
-                ),
-              ),
-            ),
-          ),
-        ),
-      ),
-    ),
-  ),
-)
+    arbiter.someReady arbiter.levelTurn arbiter.ready turns.turn turns.nextAfter word.burstOf phaseIn slotIn phaseTag
+clean = tested 1 c [] (steps c (shared c memory calls)) seen refl
 
 unfoldable pub example : History
 unfolding memory calls settle isSet first count maskOf someBelow takenOne takenTwo givenBack le leAt part put completionBytes
