@@ -29,7 +29,7 @@ use Rattle.controller.proofs.Made.{deletes-cq, deletes-sq, moves-head, 
 use Rattle.controller.proofs.Refusals.{done-not}
 use Rattle.controller.proofs.Validity.{candidate-here, sq-below, cq-below, valid}
 use Rattle.controller.proofs.Apart.{RingId, sq, cq, ringAt, bytesOf, without, deletion, sq-gone, cq-gone, Here, fate, of-rings}
-use Rattle.controller.proofs.Apart.{others, same-ring, Disjoint, apart}
+use Rattle.controller.proofs.Apart.{entryOf, ring-ok, others, same-ring, Disjoint, apart}
 use Rattle.controller.proofs.Written.{posts-to}
 use Rattle.controller.proofs.Exactly.{number, ByteInBoth, Shares, ringReasons, createCqReasons, createSqReasons, create-cq}
 use Rattle.controller.proofs.Exactly.{create-sq}
@@ -233,6 +233,19 @@ module _ {c : Controller} (r : Reachable c) where
       no-byte _ _ _ _ (apart r (w .ring) x d (rw o at (w .here)) h) (rw o at (w .is)))
       (same-ring (w .ring) x)
 
+  -- its ring may be made anew, if it lies in n bytes
+  ring-again : (x : RingId) → Here c x → {n : ℕ} → ringAt c x .base + bytesOf c x ≤ n
+      → NoneOf (ringReasons (without c x) n (entryOf x) (ringAt c x .size) (ringAt c x .base))
+  ring-again x h fits =
+      let ok = ring-ok (valid r) x h in (
+        ⊎-elim (λ k. omega (arith, k, ok .low)) (λ k. omega (arith, k, ok .high)),
+        (λ k. k (ok .aligned), (λ k. omega (arith, k, fits), (bytes-free x h, tt))),
+      )
+
+  -- a deletion is a call
+  still-reachable : (m : Memory) (x : RingId) → perform c m (deletion x) .answer ≡ done → Reachable (without c x)
+  still-reachable m x e = subst (λ (o : Outcome). Reachable (o .controller)) (deleted c m x e) (after r m (deletion x))
+
   module _ (m m′ : Memory) (id : ℕ) where
     -- a queue that was deleted is created again with the numbers that it had, if its ring lies in the memory then given: that is never
     -- refused, and it gives the queue of a first creation
@@ -246,17 +259,14 @@ module _ {c : Controller} (r : Reachable c) where
         let k = cqAt c id .ring in
         let d = withCq c id noCq in
         let h = was-there c m (cq id) e in
-        let ok = valid r .cq-ok id h in
-        let r′ : Reachable d = subst (λ (o : Outcome). Reachable (o .controller)) (deleted c m (cq id) e) (after r m (deleteCq id)) in
-        let ring : NoneOf (ringReasons d (length m′) 16 (k .size) (k .base)) = (
-          ⊎-elim (λ n. omega (arith, n, ok .low)) (λ n. omega (arith, n, ok .high)),
-          (λ n. n (ok .aligned), (λ n. omega (arith, n, fits), (bytes-free (cq id) h, tt))),
+        let free : NoneOf (createCqReasons d (length m′) id (k .size) (k .base)) = (
+          λ n. omega (arith, n, cq-below (valid r) h),
+          (λ y. clash y (no-queue d (cq id) (left-none r (cq id) h)), ring-again (cq id) h fits),
         ) in
-        let free : NoneOf (createCqReasons d (length m′) id (k .size) (k .base)) =
-        (λ n. omega (arith, n, cq-below (valid r) h), (λ y. clash y (no-queue d (cq id) (left-none r (cq id) h)), ring)) in
         rw (deleted c m (cq id) e)
         (unrefused d m′ _ _
-        (none-given (createCqReasons d (length m′) id (k .size) (k .base)) free (create-cq r′ m′ id (k .size) (k .base)))
+        (none-given (createCqReasons d (length m′) id (k .size) (k .base)) free
+        (create-cq (still-reachable m (cq id) e) m′ id (k .size) (k .base)))
         ∙ ap (λ ys. outcome done (withQueues c (c .sqs) ys) m′) (set-set (c .cqs) id noCq (newCq (k .size) (k .base))))
 
     pub again-sq : perform c m (deleteSq id) .answer ≡ done
@@ -270,23 +280,20 @@ module _ {c : Controller} (r : Reachable c) where
         let k = q .ring in
         let d = withSq c id noSq in
         let h = was-there c m (sq id) e in
-        let ok = valid r .sq-ok id h in
-        let r′ : Reachable d = subst (λ (o : Outcome). Reachable (o .controller)) (deleted c m (sq id) e) (after r m (deleteSq id)) in
-        let ring : NoneOf (ringReasons d (length m′) 64 (k .size) (k .base)) = (
-          ⊎-elim (λ n. omega (arith, n, ok .low)) (λ n. omega (arith, n, ok .high)),
-          (λ n. n (ok .aligned), (λ n. omega (arith, n, fits), (bytes-free (sq id) h, tt))),
-        ) in
         let free : NoneOf (createSqReasons d (length m′) id (k .size) (k .base) (q .cq) (q .class)) = (
           λ n. omega (arith, n, sq-below (valid r) h),
           (
             λ y. clash y (no-queue d (sq id) (left-none r (sq id) h)),
-            (λ n. omega (arith, n, valid r .sq-class id), (⊎-elim (λ n. n (valid r .sq-cq id h)) (unmixed r id h), ring)),
+            (
+              λ n. omega (arith, n, valid r .sq-class id),
+              (⊎-elim (λ n. n (valid r .sq-cq id h)) (unmixed r id h), ring-again (sq id) h fits),
+            ),
           ),
         ) in
         rw (deleted c m (sq id) e)
         (unrefused d m′ _ _
         (none-given (createSqReasons d (length m′) id (k .size) (k .base) (q .cq) (q .class)) free
-        (create-sq r′ m′ id (k .size) (k .base) (q .cq) (q .class)))
+        (create-sq (still-reachable m (sq id) e) m′ id (k .size) (k .base) (q .cq) (q .class)))
         ∙ ap (λ xs. outcome done (withQueues c xs (c .cqs)) m′)
         (set-set (c .sqs) id noSq (newSq (k .size) (k .base) (q .cq) (q .class))))
 
