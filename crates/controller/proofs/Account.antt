@@ -41,12 +41,12 @@ placeOf y = record { head = y .head; phase = y .phase }
 
 -- and the head writes accepted at it, which leave a reader where the book has it
 pub record Account (x : CompletionQueue) (y : BookCq) (m : Memory) (vs : List ℕ) : Type 0 where
-  pub unborn : x .ring .exists ≡ false → y ≡ newCq 0
+  pub absent : x .ring .exists ≡ false → y ≡ newCq 0
   pub queue : x .ring .exists ≡ true → Queue x y m
   pub stands : standing vs ≡ placeOf y
 
 -- the book and the controller, with the account of completion queue q where P holds: that no later call deletes it
-pub record World (P : Type 0) (q : ℕ) (c : Controller) (b : Book) (m : Memory) (vs : List ℕ) : Type 0 where
+pub record Agrees (P : Type 0) (q : ℕ) (c : Controller) (b : Book) (m : Memory) (vs : List ℕ) : Type 0 where
   pub sqs : (i : ℕ) → b .sqs i ≡ bookSq (sqAt c i)
   pub commands : (t : ℕ) → b .commands t ≡ bookCommand (commandAt c t)
   pub cids : (t : ℕ) → commandAt c t .cid < 2 ^ 16
@@ -54,7 +54,7 @@ pub record World (P : Type 0) (q : ℕ) (c : Controller) (b : Book) (m : Memory)
 
 -- what a call leaves
 abbrev pub Next : Type 0 → ℕ → Book → Memory → List ℕ → Call → Outcome → Type 0
-Next P q b m vs call o = World P q (o .controller) (enter b m call (o .answer)) (o .memory) (headsOn q vs call (o .answer))
+Next P q b m vs call o = Agrees P q (o .controller) (enter b m call (o .answer)) (o .memory) (headsOn q vs call (o .answer))
 
 -- the same store into the book and into the controller's list
 module _ {A B : Type 0} (g : A → B) (l : List A) (d : A) (f : ℕ → B) (k : ℕ) (x : A) (v : B) where
@@ -62,15 +62,15 @@ module _ {A B : Type 0} (g : A → B) (l : List A) (d : A) (f : ℕ → B) (k : 
   agree-set h e all = set-ind l k x d (λ i y. update f k v i ≡ g y) h (rw (eq-eqb k k refl) e) (λ i n. rw (ne-eqb i k n) (all i))
 
 -- a fresh controller and an empty book
-pub world-fresh : {P : Type 0} (weighted : Bool) (word q : ℕ) (m : Memory) → World P q (freshController weighted word) empty m []
-world-fresh weighted word q m =
+pub agrees-fresh : {P : Type 0} (weighted : Bool) (word q : ℕ) (m : Memory) → Agrees P q (freshController weighted word) empty m []
+agrees-fresh weighted word q m =
     record {
       sqs = λ i. ap bookSq (sym (getD-same 16 i noSq));
       commands = λ t. ap bookCommand (sym (getD-same 64 t noCommand));
       cids = λ t. omega (arith, ap (λ (k : Command). k .cid) (getD-same 64 t noCommand));
       account =
           λ p. record {
-            unborn = λ e. refl;
+            absent = λ e. refl;
             queue = λ e. absurd (clash e (ap (λ (x : CompletionQueue). x .ring .exists) (getD-same 16 q noCq)));
             stands = refl;
           };
@@ -82,15 +82,15 @@ pub account-kept : {x : CompletionQueue} {y : BookCq} {m m′ : Memory} {vs : Li
     → Account x y m vs → Account x y m′ vs
 account-kept k a =
     record {
-      unborn = a .unborn;
+      absent = a .absent;
       queue = λ e. let z = a .queue e in record { size-same = z .size-same; head-same = z .head-same; phase = rw (k e) (z .phase) };
       stands = a .stands;
     }
 
-module _ {P : Type 0} {q : ℕ} {c : Controller} {b : Book} {m : Memory} {vs : List ℕ} (w : World P q c b m vs) where
-  pub kept : {m′ : Memory} → (P → Kept c q m m′) → World P q c b m′ vs
+module _ {P : Type 0} {q : ℕ} {c : Controller} {b : Book} {m : Memory} {vs : List ℕ} (w : Agrees P q c b m vs) where
+  pub kept : {m′ : Memory} → (P → Kept c q m m′) → Agrees P q c b m′ vs
   kept k = record { sqs = w .sqs; commands = w .commands; cids = w .cids; account = λ p. account-kept (k p) (w .account p) }
 
   -- where more is known than P
-  pub known : {Q : Type 0} → (Q → P) → World Q q c b m vs
+  pub known : {Q : Type 0} → (Q → P) → Agrees Q q c b m vs
   known f = record { sqs = w .sqs; commands = w .commands; cids = w .cids; account = λ z. w .account (f z) }

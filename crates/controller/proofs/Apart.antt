@@ -273,8 +273,8 @@ lasts : {c d : Controller} → Grown c d → (x : RingId) → Here c x → Here 
 lasts (still-rings e) x h = ap (λ (r : Ring). r .exists) (e x) ∙ h
 lasts (adds-ring w r h e o n) x y = ⊎-elim (λ (p : x ≡ w). rw (p, e) h) (λ (p : x ≡ w → ⊥). rw (o x p) y) (same-ring x w)
 
-pub fate : {c : Controller} {m : Memory} {call : Call} {o : Outcome} → RingsMade c m call o → (x : RingId) → Here c x
+pub stays-or-deleted : {c : Controller} {m : Memory} {call : Call} {o : Outcome} → RingsMade c m call o → (x : RingId) → Here c x
     → Here (o .controller) x ⊎ ((call ≡ deletion x) × (o ≡ outcome done (without c x) m))
-fate (grows g) x h = inl (lasts g x h)
-fate {c} (removes w e) x h =
+stays-or-deleted (grows g) x h = inl (lasts g x h)
+stays-or-deleted {c} (removes w e) x h =
     ⊎-elim (λ (p : x ≡ w). inr (rw p refl, rw p refl)) (λ (d : x ≡ w → ⊥). inl (rw (others c w x d) h)) (same-ring x w)

@@ -27,7 +27,7 @@ use Rattle.controller.specs.Book as book
 use Rattle.controller.specs.Demand.{Cleared}
 use Rattle.controller.proofs.Lists.{set-same}
 use Rattle.controller.proofs.Made.{NewCq, TakesHead}
-use Rattle.controller.proofs.Account.{bookSq, Account, World, Next, agree-set, known}
+use Rattle.controller.proofs.Account.{bookSq, Account, Agrees, Next, agree-set, known}
 
 -- a law of k that is shown of q, and of every other k
 pub this-or-other : (P : ℕ → Type 0) (q k : ℕ) → P q → ((k ≡ q → ⊥) → P k) → P k
@@ -41,14 +41,14 @@ module _ (q : ℕ) (l : List CompletionQueue) (f : ℕ → BookCq) (m : Memory) 
   pub account-other : (k : ℕ) → (k ≡ q → ⊥) → Account (getD l q noCq) (f q) m vs → Account (getD (set l k x) q noCq) (update f k y q) m vs
   account-other k n a = rw (getD-set-other l k q x noCq (λ e. n (sym e)), ne-eqb q k (λ e. n (sym e))) a
 
-module _ {P : Type 0} (q : ℕ) (c : Controller) (b : Book) (m : Memory) (vs : List ℕ) (valid : Valid c) (w : World P q c b m vs) where
+module _ {P : Type 0} (q : ℕ) (c : Controller) (b : Book) (m : Memory) (vs : List ℕ) (valid : Valid c) (w : Agrees P q c b m vs) where
   -- "Refusals .. : nothing."
   pub next-refused : (call : Call) (n : ℕ) → Next P q b m vs call (outcome (refused n) c m)
   unfolding enter
   next-refused call n = w
 
   -- a submission queue of which the book keeps what it has
-  same-sq : (id : ℕ) (x : SubmissionQueue) → bookSq x ≡ bookSq (sqAt c id) → World P q (withSq c id x) b m vs
+  same-sq : (id : ℕ) (x : SubmissionQueue) → bookSq x ≡ bookSq (sqAt c id) → Agrees P q (withSq c id x) b m vs
   same-sq id x e =
       record {
         sqs = λ i. w .sqs i ∙ sym (set-same (c .sqs) id x noSq bookSq e i);
@@ -90,16 +90,16 @@ module _ {P : Type 0} (q : ℕ) (c : Controller) (b : Book) (m : Memory) (vs : L
 
   -- a completion queue is made or changed
   world-cq : (k : ℕ) (x : CompletionQueue) (y : BookCq) (us : List ℕ) → (P → Account (cqAt (withCq c k x) q) (update (b .cqs) k y q) m us)
-      → World P q (withCq c k x) (book.withCq b k y) m us
+      → Agrees P q (withCq c k x) (book.withCq b k y) m us
   world-cq k x y us a = record { sqs = w .sqs; commands = w .commands; cids = w .cids; account = a }
 
   -- queue q itself
   world-this : q < 16 → (x : CompletionQueue) (y : BookCq) (us : List ℕ) → (P → Account x y m us)
-      → World P q (withCq c q x) (book.withCq b q y) m us
+      → Agrees P q (withCq c q x) (book.withCq b q y) m us
   world-this l x y us a = world-cq q x y us (λ p. account-this q (c .cqs) (b .cqs) m us x y (omega (arith, valid .cqs-16)) (a p))
 
   -- another one
-  world-other : (k : ℕ) → (k ≡ q → ⊥) → (x : CompletionQueue) (y : BookCq) → World P q (withCq c k x) (book.withCq b k y) m vs
+  world-other : (k : ℕ) → (k ≡ q → ⊥) → (x : CompletionQueue) (y : BookCq) → Agrees P q (withCq c k x) (book.withCq b k y) m vs
   world-other k n x y = world-cq k x y vs (λ p. account-other q (c .cqs) (b .cqs) m vs x y k n (w .account p))
 
   abbrev created : ℕ → ℕ → ℕ → Outcome
@@ -115,7 +115,7 @@ module _ {P : Type 0} (q : ℕ) (c : Controller) (b : Book) (m : Memory) (vs : L
       rw (eq-eqb q q refl)
       (world-this (n .id-low) (newCq size base) (book.newCq size) []
       (λ p. record {
-        unborn = λ e. absurd (clash refl e);
+        absent = λ e. absurd (clash refl e);
         queue = λ e. record {
           size-same = refl;
           head-same = refl;
@@ -146,7 +146,7 @@ module _ {P : Type 0} (q : ℕ) (c : Controller) (b : Book) (m : Memory) (vs : L
       rw (eq-eqb q q refl)
       (world-this (r .id-low) (headMoved (cqAt c q) v) (headBook (b .cqs q) v) _
       (λ p. let z = w .account p .queue (r .here) in record {
-        unborn = λ e. absurd (clash (r .here) e);
+        absent = λ e. absurd (clash (r .here) e);
         queue = λ e. record {
           size-same = z .size-same;
           head-same = refl;
@@ -168,7 +168,7 @@ module _ (q : ℕ) (c : Controller) (b : Book) (m : Memory) (vs : List ℕ) (val
   abbrev deleted : ℕ → Outcome
   deleted id = outcome done (withCq c id noCq) m
 
-  delete-this : {P Q : Type 0} → World P q c b m vs → q < 16 → Next Q q b m vs (deleteCq q) (deleted q)
+  delete-this : {P Q : Type 0} → Agrees P q c b m vs → q < 16 → Next Q q b m vs (deleteCq q) (deleted q)
   unfolding enter
   delete-this w l =
       rw (eq-eqb q q refl) (record {
@@ -177,14 +177,14 @@ module _ (q : ℕ) (c : Controller) (b : Book) (m : Memory) (vs : List ℕ) (val
         cids = w .cids;
         account =
             λ p. account-this q (c .cqs) (b .cqs) m [] noCq book.noCq (omega (arith, valid .cqs-16))
-            (record { unborn = λ e. refl; queue = λ e. absurd (clash e refl); stands = refl });
+            (record { absent = λ e. refl; queue = λ e. absurd (clash e refl); stands = refl });
       })
 
-  delete-other : {P : Type 0} → World P q c b m vs → (id : ℕ) → (id ≡ q → ⊥) → Next P q b m vs (deleteCq id) (deleted id)
+  delete-other : {P : Type 0} → Agrees P q c b m vs → (id : ℕ) → (id ≡ q → ⊥) → Next P q b m vs (deleteCq id) (deleted id)
   unfolding enter
   delete-other w id n = rw (ne-eqb q id (λ e. n (sym e))) (world-other q c b m vs valid w id n noCq book.noCq)
 
-  pub next-delete-cq : {P Q : Type 0} → World P q c b m vs → (id : ℕ) → id < 16 → ((id ≡ q → ⊥) → Q → P)
+  pub next-delete-cq : {P Q : Type 0} → Agrees P q c b m vs → (id : ℕ) → id < 16 → ((id ≡ q → ⊥) → Q → P)
       → Next Q q b m vs (deleteCq id) (deleted id)
   next-delete-cq {P} {Q} w id =
       this-or-other (λ k. k < 16 → ((k ≡ q → ⊥) → Q → P) → Next Q q b m vs (deleteCq k) (deleted k)) q id

@@ -29,7 +29,7 @@ use Rattle.controller.proofs.Made.{Finishable}
 use Rattle.controller.proofs.Unlinked.{unlinked-same}
 use Rattle.controller.proofs.Validity.{cq-below, valid}
 use Rattle.controller.proofs.Written.{posts-to, ring-posted, ring-kept}
-use Rattle.controller.proofs.Account.{bookCommand, Account, World, Next, agree-set, account-kept}
+use Rattle.controller.proofs.Account.{bookCommand, Account, Agrees, Next, agree-set, account-kept}
 use Rattle.controller.proofs.Booked.{this-or-other, account-this, account-other}
 
 -- ---- the second half of a first half that posted
@@ -100,7 +100,7 @@ module _ (q : ℕ) {c : Controller} (b : Book) (m : Memory) (vs : List ℕ) (r :
       account-this q (c .cqs) (b .cqs) (postedMemory c m q e) vs (posted (cqAt c q)) (postedBook q)
       (omega (arith, valid r .cqs-16, cq-below (valid r) here))
       (record {
-        unborn = λ a. absurd (clash here a);
+        absent = λ a. absurd (clash here a);
         queue = λ a. record {
           size-same = z .size-same;
           head-same = z .head-same;
@@ -117,7 +117,7 @@ module _ (q : ℕ) {c : Controller} (b : Book) (m : Memory) (vs : List ℕ) (r :
   post-any : (k : ℕ) → Posted k
   post-any k = this-or-other Posted q k post-this (post-other k)
 
-module _ {P : Type 0} (q : ℕ) {c : Controller} (b : Book) (m : Memory) (vs : List ℕ) (r : Reachable c) (w : World P q c b m vs)
+module _ {P : Type 0} (q : ℕ) {c : Controller} (b : Book) (m : Memory) (vs : List ℕ) (r : Reachable c) (w : Agrees P q c b m vs)
     (tag status result : ℕ) (bound : result < 2 ^ 32) (f : Finishable c (length m) tag status) where
   abbrev k : Command
   k = commandAt c tag

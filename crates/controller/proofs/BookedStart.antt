@@ -16,9 +16,9 @@ use Rattle.controller.specs.Calls.{start}
 use Rattle.controller.specs.Valid.{Valid}
 use Rattle.controller.specs.Book.{Book, update, enter}
 use Rattle.controller.proofs.Lists.{set-all}
-use Rattle.controller.proofs.Account.{bookSq, bookCommand, World, Next, agree-set}
+use Rattle.controller.proofs.Account.{bookSq, bookCommand, Agrees, Next, agree-set}
 
-module _ {P : Type 0} (q : ℕ) (c : Controller) (b : Book) (m : Memory) (vs : List ℕ) (valid : Valid c) (w : World P q c b m vs)
+module _ {P : Type 0} (q : ℕ) (c : Controller) (b : Book) (m : Memory) (vs : List ℕ) (valid : Valid c) (w : Agrees P q c b m vs)
     (bytes : Bytes m) (id : ℕ) (a : Arbiter) (low : id < 16) (v : ℕ) where
   -- a CID has two bytes
   cid-in : (p : ℕ) → entryAt m (sqAt c id .ring) p .cid < 2 ^ 16

@@ -28,7 +28,7 @@ use Rattle.controller.proofs.Made.{Mixed, takes-one, takes-pair, finish
 use Rattle.controller.proofs.Made.{deletes-cq, deletes-sq, moves-head, commands, made, new-cq, new-sq, idle-sq, unnamed-cq}
 use Rattle.controller.proofs.Refusals.{done-not}
 use Rattle.controller.proofs.Validity.{candidate-here, sq-below, cq-below, valid}
-use Rattle.controller.proofs.Apart.{RingId, sq, cq, ringAt, bytesOf, without, deletion, sq-gone, cq-gone, Here, fate, of-rings}
+use Rattle.controller.proofs.Apart.{RingId, sq, cq, ringAt, bytesOf, without, deletion, sq-gone, cq-gone, Here, stays-or-deleted, of-rings}
 use Rattle.controller.proofs.Apart.{entryOf, ring-ok, others, same-ring, Disjoint, apart}
 use Rattle.controller.proofs.Written.{posts-to}
 use Rattle.controller.proofs.Exactly.{number, ByteInBoth, Shares, ringReasons, createCqReasons, createSqReasons, create-cq}
@@ -135,7 +135,7 @@ module _ {c : Controller} (r : Reachable c) where
         → (ringAt (perform c m call .controller) x .exists ≡ false) ↔ ((call ≡ deletion x) × (perform c m call .answer ≡ done))
     ends call x h = (
       λ n. ⊎-elim (λ y. absurd (clash y n)) (λ y. (y .0, ap (λ (o : Outcome). o .answer) (y .1)))
-          (fate (of-rings (valid r) (made c m (valid r .free-64) call)) x h),
+          (stays-or-deleted (of-rings (valid r) (made c m (valid r .free-64) call)) x h),
       λ y.
           let e = ap (λ a. perform c m a .answer) (y .0) in
           rw (y .0) (no-queue _ x (gone x (sym e ∙ y .1))),

@@ -1,7 +1,7 @@
--- DEMAND 1, of every call; and DEMAND 3, over any list of calls: the reader finds exactly what was posted and not yet released. Assumes
+-- DEMAND 1, of every call; and DEMAND 3, over any list of runs: the reader finds exactly what was posted and not yet released. Assumes
 -- nothing.
 use Prim.Native.Nat.{ℕ, _*_, _<_, _^_}
-use mathlib.Core.List.{List, [], _∷_, foldl}
+use mathlib.Core.List.{List, [], _∷_, _++_, foldl-append}
 use mathlib.Core.Path.{_≡_, refl, sym, ap, _∙_}
 use native.Mathlib.Nat.{mod-eq-of-lt}
 use native.Mathlib.Omega.{arith}
@@ -15,25 +15,26 @@ use Rattle.ring.specs.Reader.{readSlots, readerRefusal, ringRead}
 use Rattle.ring.proofs.Phase.{counts, finds, reader-phase-in}
 use Rattle.ring.specs.declared.reader.Waiting.the-variants.{Count, Refused}
 use Rattle.controller.specs.Controller.{Controller}
-use Rattle.controller.specs.State.{noCq, cqAt, withCq, freshController}
+use Rattle.controller.specs.State.{noCq, cqAt, withCq}
 use Rattle.controller.specs.Create.{newCq}
 use Rattle.controller.specs.Starting.{oneTaken, pairTaken}
 use Rattle.controller.specs.Finishing.{cqOf, posted, finishedController}
 use Rattle.controller.specs.Answers.{Outcome}
 use Rattle.controller.specs.Calls.{Call, resultOf, Reachable, fresh, after, perform}
 use Rattle.controller.specs.Refusing.{Answered}
-use Rattle.controller.specs.Steps.{Given, steps, final}
+use Rattle.controller.specs.Steps.{Step, steps, given, final, leaves, Run, runSteps, afterRun, allSteps, afterRuns}
 use Rattle.controller.specs.Valid.{RingOk}
-use Rattle.controller.specs.Book.{Book, empty}
-use Rattle.controller.specs.Demand.{booked, headsOn, heads, reader, Cleared, Keeps, Stays, Clean, Typed, History, ringBytes}
-use Rattle.controller.specs.Demand.{sizeOf, headWrites, unreleased, bookHead, bookPhase}
+use Rattle.controller.specs.Book.{Book}
+use Rattle.controller.specs.Demand.{booked, heads, reader, Cleared, Keeps, Stays, ClearTags, Untouched, Narrow, Typed, History}
+use Rattle.controller.specs.Demand.{last, ringBytes, sizeOf, headWrites, book, unreleased, bookHead, bookPhase}
 use Rattle.controller.proofs.Made.{takes-one, takes-pair, finishes, Made, refuses, marks, creates-cq, creates-sq, moves-tail}
-use Rattle.controller.proofs.Made.{deletes-cq, deletes-sq, moves-head, commands, made}
+use Rattle.controller.proofs.Made.{deletes-cq, deletes-sq, moves-head, commands, of-commands, made}
 use Rattle.controller.proofs.Lists.{set-keep, set-same}
 use Rattle.controller.proofs.Answered.{answered}
-use Rattle.controller.proofs.Steps.{reached}
+use Rattle.controller.proofs.Steps.{reached, reached-runs}
+use Rattle.controller.proofs.MemoryBytes.{call-bytes}
 use Rattle.controller.proofs.Validity.{CqHere, valid}
-use Rattle.controller.proofs.Account.{Queue, World, Next, world-fresh, kept, known}
+use Rattle.controller.proofs.Account.{Queue, Agrees, Next, agrees-fresh, kept, known}
 use Rattle.controller.proofs.Booked.{next-refused, next-marked, next-tail, next-create-sq, next-create-cq, next-head, next-delete-sq}
 use Rattle.controller.proofs.Booked.{next-delete-cq}
 use Rattle.controller.proofs.BookedStart.{next-one, next-pair}
@@ -49,7 +50,7 @@ demand1 = answered
 module _ {q : ℕ} {c : Controller} {b : Book} {m : Memory} {vs : List ℕ} (r : Reachable c) (bytes : Bytes m) where
   -- each call keeps the book and the controller in agreement; P is about what comes after it
   next-call : {P : Type 0} {call : Call} {o : Outcome} → Made c m call o → resultOf call < 2 ^ 32
-      → World (Keeps q c (o .controller) × P) q c b m vs → (Keeps q c (o .controller) × P → Cleared q m c (o .controller))
+      → Agrees (Keeps q c (o .controller) × P) q c b m vs → (Keeps q c (o .controller) × P → Cleared q m c (o .controller))
       → Next P q b m vs call o
   unfolding oneTaken pairTaken finishedController posted
   next-call (refuses call n) t w z = next-refused q c b m vs (valid r) (known w (λ p. (λ h. h, p))) call n
@@ -76,31 +77,44 @@ module _ {q : ℕ} {c : Controller} {b : Book} {m : Memory} {vs : List ℕ} (r :
       next-finish q b m vs r
       (known w (λ p. (λ h. set-same (c .cqs) (cqOf c tag) _ noCq (λ x. x .ring .exists) refl q ∙ h, p))) tag status result t g
 
--- after the calls they agree
-all-calls : (q : ℕ) (gs : List Given) {c : Controller} {b : Book} {left : Memory} {vs : List ℕ} (seen : Memory)
-    → Reachable c → World (Stays q (steps c gs)) q c b left vs → Typed gs → Clean q c left (steps c gs) seen
-    → World (Unit {0}) q (final c gs) (booked c b gs) seen
-    (foldl (λ us s. headsOn q us (s .given .call) (s .outcome .answer)) vs (steps c gs))
-all-calls q [] seen r w t k = kept w (λ p. k)
-all-calls q (g ∷ gs) seen r w t k =
-    all-calls q gs seen (after r (g .memory) (g .call))
-    (next-call r (t .0) (made _ (g .memory) (valid r .free-64) (g .call)) (t .1) (kept w (λ p. k .0 p .0)) (λ p. k .0 p .1)) (t .2) (k .1)
+-- after the calls of a run they agree; other steps may follow
+run-agrees : (q : ℕ) (xs : List Call) (later : List Step) {c : Controller} {b : Book} {m : Memory} {vs : List ℕ}
+    → Reachable c → Bytes m → Narrow xs → (let ss = steps c (given c m xs) in
+    ClearTags q (ss ++ later) → Agrees (Stays q (ss ++ later)) q c b m vs
+    → Agrees (Stays q later) q (final c (given c m xs)) (booked b ss) (leaves c m xs) (heads q vs ss))
+run-agrees q [] later r bytes n k w = w
+run-agrees q (x ∷ xs) later {c} {m = m} r bytes n k w =
+    let is-made = made c m (valid r .free-64) x in
+    run-agrees q xs later (after r m x) (call-bytes bytes (of-commands is-made)) (n .1) (k .1) (next-call r bytes is-made (n .0) w (k .0))
+
+clear-later : (q : ℕ) (ss later : List Step) → ClearTags q (ss ++ later) → ClearTags q later
+clear-later q [] later k = k
+clear-later q (s ∷ ss) later k = clear-later q ss later (k .1)
+
+-- after the runs they agree
+runs-agree : (q : ℕ) (rs : List Run) {c : Controller} {b : Book} {left : Memory} {vs : List ℕ} (seen : Memory)
+    → Reachable c → Agrees (Stays q (allSteps c rs)) q c b left vs → Typed rs → ClearTags q (allSteps c rs) → Untouched q c left rs seen
+    → Agrees (Unit {0}) q (afterRuns c rs) (booked b (allSteps c rs)) seen (heads q vs (allSteps c rs))
+runs-agree q [] seen r w t k u = kept w (λ p. u)
+runs-agree q (x ∷ rs) {c} {b} {vs = vs} seen r w t k u =
+    let ss = runSteps c x in
+    let later = allSteps (afterRun c x) rs in
+    rw (foldl-append _ b ss later, foldl-append _ vs ss later)
+    (runs-agree q rs seen (reached (given c (x .memory) (x .calls)) r)
+    (run-agrees q (x .calls) later r (t .0) (t .1) k (kept w (u .0))) (t .2) (clear-later q ss later k) (u .1))
 
 -- ---- of a history
 
 module _ (h : History) where
-  abbrev pub last : Controller
-  last = final (freshController (h .weighted) (h .word)) (h .calls)
+  pub reachable : Reachable (last h)
+  reachable = reached-runs (h .runs) (fresh (h .weighted) (h .word))
 
-  pub reachable : Reachable last
-  reachable = reached (h .calls) (fresh (h .weighted) (h .word))
-
-  agrees : World (Unit {0}) (h .q) last (booked (freshController (h .weighted) (h .word)) empty (h .calls)) (h .seen) (headWrites h)
+  agrees : Agrees (Unit {0}) (h .q) (last h) (book h) (h .seen) (headWrites h)
   agrees =
-      all-calls (h .q) (h .calls) (h .seen) (fresh (h .weighted) (h .word)) (world-fresh (h .weighted) (h .word) (h .q) []) (h .typed)
-      (h .clean)
+      runs-agree (h .q) (h .runs) (h .seen) (fresh (h .weighted) (h .word)) (agrees-fresh (h .weighted) (h .word) (h .q) []) (h .typed)
+      (h .clear) (h .untouched)
 
-  pub queue : Queue (cqAt last (h .q)) (booked (freshController (h .weighted) (h .word)) empty (h .calls) .cqs (h .q)) (h .seen)
+  pub queue : Queue (cqAt (last h) (h .q)) (book h .cqs (h .q)) (h .seen)
   queue = agrees .account tt .queue (h .exists)
 
   -- DEMAND 3, its first half: from the ring's bytes, its size and its accepted head writes alone, "each once, in order, field for field"
@@ -112,10 +126,10 @@ module _ (h : History) where
   accepts : readerRefusal (length (ringBytes h)) (sizeOf h) (bookHead h) ≡ 0
   unfolding readerRefusal
   accepts =
-      let r : RingOk (cqAt last (h .q) .ring) = valid reachable .cq-ok (h .q) (h .exists) in
+      let r : RingOk (cqAt (last h) (h .q) .ring) = valid reachable .cq-ok (h .q) (h .exists) in
       let size = in-range 2 1024 (sizeOf h) (r .low) (r .high) in
       let whole = le-ltb (length (ringBytes h)) (16 * sizeOf h) (omega (arith, queue .phase .sized)) in
-      let head = lt-leb (sizeOf h) (cqAt last (h .q) .ring .head) (r .head-below) in
+      let head = lt-leb (sizeOf h) (cqAt (last h) (h .q) .ring .head) (r .head-below) in
       rw (size, whole, queue .head-same, head)
 
   -- "The reader, given the book's head and phase tag, answers how many wait; its slots read as these in order, all five fields equal."

@@ -13,20 +13,20 @@ use Rattle.ring.specs.Slots.{distance}
 use Rattle.ring.proofs.Doorbells as value
 use Rattle.ring.proofs.Phase.{waiting-length}
 use Rattle.controller.specs.Controller.{Controller}
-use Rattle.controller.specs.State.{noSq, noCq, sqAt, cqAt, withSq, withCq, freshController}
+use Rattle.controller.specs.State.{noSq, noCq, sqAt, cqAt, withSq, withCq}
 use Rattle.controller.specs.Create as create
 use Rattle.controller.specs.Create.{newSq, newCq}
 use Rattle.controller.specs.Doorbell as doorbell
 use Rattle.controller.specs.Doorbell.{validTail, tailMoved, headMoved, mark}
 use Rattle.controller.specs.Answers.{done, refused, Outcome, outcome}
 use Rattle.controller.specs.Calls.{createCq, createSq, tailWrite, headWrite, Reachable, perform}
-use Rattle.controller.specs.Book.{Book, empty, enter}
-use Rattle.controller.specs.Demand.{booked, History, sizeOf, unreleased, bookHead}
+use Rattle.controller.specs.Book.{enter}
+use Rattle.controller.specs.Demand.{History, last, sizeOf, book, unreleased, bookHead}
 use Rattle.controller.proofs.Made.{NewCq, NewSq, TakesTail, TakesHead, new-cq, new-sq, takes-tail, takes-head}
 use Rattle.controller.proofs.Refusals.{done-not}
 use Rattle.controller.proofs.Validity.{valid}
 use Rattle.controller.proofs.Submitted.{waiting}
-use Rattle.controller.proofs.Demand.{last, reachable, queue}
+use Rattle.controller.proofs.Demand.{reachable, queue}
 
 -- ---- the value held: "refused with 10 on either doorbell .. and on a tail write it marks the SQ"
 
@@ -155,13 +155,10 @@ module _ {c : Controller} (r : Reachable c) (m : Memory) (id size base : ℕ) wh
 -- ---- in demand 3's book
 
 module _ (h : History) (m : Memory) (v : ℕ) where
-  abbrev book : Book
-  book = booked (freshController (h .weighted) (h .word)) empty (h .calls)
-
   -- "as many as its distance from the head leave, oldest first": so many wait, at least one
   pub book-releases : perform (last h) m (headWrite (h .q) v) .answer ≡ done
       → (let k = distance (sizeOf h) (bookHead h) v in
-      (1 ≤ k) × (length (unreleased h) ≡ k + length (enter book m (headWrite (h .q) v) done .cqs (h .q) .waiting)))
+      (1 ≤ k) × (length (unreleased h) ≡ k + length (enter (book h) m (headWrite (h .q) v) done .cqs (h .q) .waiting)))
   unfolding enter
   book-releases e =
       let s = head-releases (reachable h) m (h .q) v e in

@@ -8,6 +8,7 @@ pub mod Refusals
 pub mod Steps
 pub mod Unlinked
 pub mod Validity
+pub mod MemoryBytes
 pub mod Unserved
 pub mod Submitted
 pub mod CountsOne
@@ -28,11 +29,7 @@ pub mod BookedFinish
 pub mod Demand
 pub mod Unread
 pub mod Doorbells
-pub mod Lives
+pub mod Lifetimes
 pub mod Undisturbed
-pub mod ThreePasses
-pub mod HostWrites
-pub mod TwoLives
-pub mod LastNumber
 pub mod Reaches
 pub mod Settled

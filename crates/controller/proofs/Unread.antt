@@ -25,14 +25,14 @@ use Rattle.controller.specs.Finishing.{cqOf, full, finishRefusal, comple
 use Rattle.controller.specs.Finishing.{finishAnswer}
 use Rattle.controller.specs.Answers.{FinishAnswer, Answer, refused, done, started, finished, numberOf, outcome, refusing}
 use Rattle.controller.specs.Calls.{Reachable, finish, perform}
-use Rattle.controller.specs.Demand.{History, ringOf, ringBytes, sizeOf, unreleased, bookHead}
+use Rattle.controller.specs.Demand.{History, last, ringOf, ringBytes, sizeOf, unreleased, bookHead}
 use Rattle.controller.proofs.Made.{finishable}
 use Rattle.controller.proofs.Validity.{valid}
 use Rattle.controller.proofs.Refusals.{finished-not}
 use Rattle.controller.proofs.Exactly.{NoFreeSlot, beforeFull, finish-refusal}
 use Rattle.controller.proofs.Written.{posts-to, fits, ring-posted, ring-kept}
 use Rattle.controller.proofs.Booked.{this-or-other}
-use Rattle.controller.proofs.Demand.{last, reachable, queue}
+use Rattle.controller.proofs.Demand.{reachable, queue}
 
 same-slot : {x y : FinishAnswer} → finished x ≡ finished y → x .slot ≡ y .slot
 same-slot e = cc

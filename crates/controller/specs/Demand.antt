@@ -1,4 +1,4 @@
--- Demand 3: what is said of a list of calls, each with the memory that it is given.
+-- Demand 3: what is said of a list of runs, each with the memory that it is given.
 use Prim.Native.Nat.{ℕ, _-_, _*_, _<_, _^_}
 use mathlib.Core.Path.{_≡_}
 use mathlib.Core.Bool.{Bool, true, false}
@@ -13,12 +13,12 @@ use Rattle.controller.specs.State.{cqAt, freshController}
 use Rattle.controller.specs.Answers.{Answer, unlessRefused}
 use Rattle.controller.specs.Calls.{Call, createCq, createSq, deleteCq, deleteSq, tailWrite, headWrite, start, finish}
 use Rattle.controller.specs.Calls.{resultOf}
-use Rattle.controller.specs.Steps.{Given, Step, steps, final}
+use Rattle.controller.specs.Steps.{Step, Run, afterRun, leftBy, allSteps, afterRuns}
 use Rattle.controller.specs.Book.{Book, empty, enter}
 
--- the book after the calls
-abbrev pub booked : Controller → Book → List Given → Book
-booked c b gs = foldl (λ x s. enter x (s .given .memory) (s .given .call) (s .outcome .answer)) b (steps c gs)
+-- the book after the steps
+abbrev pub booked : Book → List Step → Book
+booked = foldl (λ x s. enter x (s .given .memory) (s .given .call) (s .outcome .answer))
 
 -- The head writes accepted at completion queue q since its latest creation: those before a call, vs, and what a call that was not
 -- refused makes of them.
@@ -35,8 +35,8 @@ headsIn q vs (finish tag status result) = vs
 abbrev pub headsOn : ℕ → List ℕ → Call → Answer → List ℕ
 headsOn q vs call a = unlessRefused a vs (headsIn q vs call)
 
-abbrev pub heads : ℕ → Controller → List Given → List ℕ
-heads q c gs = foldl (λ vs s. headsOn q vs (s .given .call) (s .outcome .answer)) [] (steps c gs)
+abbrev pub heads : ℕ → List ℕ → List Step → List ℕ
+heads q = foldl (λ vs s. headsOn q vs (s .given .call) (s .outcome .answer))
 
 -- where a reader stands, and the phase tag that it expects there
 pub record Place : Type 0 where
@@ -78,50 +78,67 @@ abbrev pub Stays : ℕ → List Step → Type 0
 Stays q [] = Unit {0}
 Stays q (s ∷ ss) = Keeps q (s .before) (s .outcome .controller) × Stays q ss
 
--- The premise: every phase tag of q's ring is 0 at its latest creation, and from then on nobody but the controller writes there. A
--- queue that is deleted later asks for nothing. `left` is the memory as the last call left it, `seen` as the reader sees it.
-abbrev pub Clean : ℕ → Controller → Memory → List Step → Memory → Type 0
-Clean q c left [] seen = Kept c q left seen
-Clean q c left (s ∷ ss) seen =
-    (Stays q (s ∷ ss) → Kept c q left (s .given .memory) × Cleared q (s .given .memory) c (s .outcome .controller))
-    × Clean q (s .outcome .controller) (s .outcome .memory) ss seen
+-- Demand 3's premise, its first part: every phase tag of q's ring is 0 at its creation. A queue that is deleted later asks for nothing.
+abbrev pub ClearTags : ℕ → List Step → Type 0
+ClearTags q [] = Unit {0}
+ClearTags q (s ∷ ss) =
+    (Stays q (s ∷ ss) → Cleared q (s .given .memory) (s .before) (s .outcome .controller)) × ClearTags q ss
 
--- what the types of the code say: a memory holds bytes, and a result has 32 bits
-abbrev pub Typed : List Given → Type 0
+-- Its second part: nobody but the controller writes into q's ring. `left` is the memory as the last run left it, `seen` as the reader
+-- sees it.
+abbrev pub Untouched : ℕ → Controller → Memory → List Run → Memory → Type 0
+Untouched q c left [] seen = Kept c q left seen
+Untouched q c left (r ∷ rs) seen =
+    (Stays q (allSteps c (r ∷ rs)) → Kept c q left (r .memory)) × Untouched q (afterRun c r) (leftBy c r) rs seen
+
+-- what the types of the code say: a result has 32 bits, and a memory holds bytes
+abbrev pub Narrow : List Call → Type 0
+Narrow [] = Unit {0}
+Narrow (x ∷ xs) = (resultOf x < 2 ^ 32) × Narrow xs
+
+abbrev pub Typed : List Run → Type 0
 Typed [] = Unit {0}
-Typed (g ∷ gs) = Bytes (g .memory) × (resultOf (g .call) < 2 ^ 32) × Typed gs
+Typed (r ∷ rs) = Bytes (r .memory) × Narrow (r .calls) × Typed rs
 
--- a list of calls from a fresh controller, with a completion queue that exists after them, as the demand has it
+-- a list of runs from a fresh controller, with a completion queue that exists after them, as the demand has it
 pub record History : Type 0 where
   pub weighted : Bool
   pub word : ℕ
-  pub calls : List Given
+  pub runs : List Run
   pub seen : Memory
   pub q : ℕ
-  pub typed : Typed calls
-  pub clean : Clean q (freshController weighted word) [] (steps (freshController weighted word) calls) seen
-  pub exists : There q (final (freshController weighted word) calls)
+  pub typed : Typed runs
+  pub clear : ClearTags q (allSteps (freshController weighted word) runs)
+  pub untouched : Untouched q (freshController weighted word) [] runs seen
+  pub exists : There q (afterRuns (freshController weighted word) runs)
 
 module _ (h : History) where
   abbrev fresh : Controller
   fresh = freshController (h .weighted) (h .word)
 
+  -- the controller after the runs
+  abbrev pub last : Controller
+  last = afterRuns fresh (h .runs)
+
   -- what the reader has
   abbrev pub ringBytes : List ℕ
-  ringBytes = ringOf (final fresh (h .calls)) (h .q) (h .seen)
+  ringBytes = ringOf last (h .q) (h .seen)
 
   abbrev pub sizeOf : ℕ
-  sizeOf = cqAt (final fresh (h .calls)) (h .q) .ring .size
+  sizeOf = cqAt last (h .q) .ring .size
 
   abbrev pub headWrites : List ℕ
-  headWrites = heads (h .q) fresh (h .calls)
+  headWrites = heads (h .q) [] (allSteps fresh (h .runs))
 
-  -- the book's account of the queue: what was posted and is not yet released, and where the reader stands
+  -- the book, and its account of the queue: what was posted and is not yet released, and where the reader stands
+  abbrev pub book : Book
+  book = booked empty (allSteps fresh (h .runs))
+
   abbrev pub unreleased : List Completion
-  unreleased = booked fresh empty (h .calls) .cqs (h .q) .waiting
+  unreleased = book .cqs (h .q) .waiting
 
   abbrev pub bookHead : ℕ
-  bookHead = booked fresh empty (h .calls) .cqs (h .q) .head
+  bookHead = book .cqs (h .q) .head
 
   abbrev pub bookPhase : ℕ
-  bookPhase = booked fresh empty (h .calls) .cqs (h .q) .phase
+  bookPhase = book .cqs (h .q) .phase

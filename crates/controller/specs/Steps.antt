@@ -1,5 +1,5 @@
--- Calls one after another, as one list of steps. Whatever is said of a list of calls is a fold over it.
-use mathlib.Core.List.{List, [], _∷_, map, foldl}
+-- Calls one after another, as one list of steps, and runs. Whatever is said of a list of calls is a fold over its steps.
+use mathlib.Core.List.{List, [], _∷_, _++_, map, foldl}
 use Rattle.le.specs.Memory.{Memory}
 use Rattle.controller.specs.Controller.{Controller}
 use Rattle.controller.specs.Answers.{Answer, Outcome}
@@ -39,3 +39,32 @@ answers c m xs = map (λ s. s .outcome .answer) (steps c (given c m xs))
 
 abbrev pub leaves : Controller → Memory → List Call → Memory
 leaves c m xs = foldl (λ n s. s .outcome .memory) m (steps c (given c m xs))
+
+-- ---- runs
+
+-- Calls made one after another in one memory, with nobody writing to it between them: a single call, or those that a replay makes.
+pub record Run : Type 0 where
+  pub memory : Memory
+  pub calls : List Call
+
+abbrev pub single : Memory → Call → Run
+single m x = record { memory = m; calls = x ∷ [] }
+
+-- the steps of a run, and the controller and the memory that it leaves
+abbrev pub runSteps : Controller → Run → List Step
+runSteps c r = steps c (given c (r .memory) (r .calls))
+
+abbrev pub afterRun : Controller → Run → Controller
+afterRun c r = final c (given c (r .memory) (r .calls))
+
+abbrev pub leftBy : Controller → Run → Memory
+leftBy c r = leaves c (r .memory) (r .calls)
+
+-- the steps of runs, and the controller after them
+abbrev pub allSteps : Controller → List Run → List Step
+allSteps c [] = []
+allSteps c (r ∷ rs) = runSteps c r ++ allSteps (afterRun c r) rs
+
+abbrev pub afterRuns : Controller → List Run → Controller
+afterRuns c [] = c
+afterRuns c (r ∷ rs) = afterRuns (afterRun c r) rs

@@ -1,8 +1,6 @@
 pub mod Playing
-pub mod Reaches
-pub mod AsCalls
-pub mod Demand
-pub mod Joined
 pub mod Exactly
+pub mod Joined
+pub mod AsRun
+pub mod Reaches
 pub mod Fits
-pub mod WholeCase

@@ -1,11 +1,8 @@
 -- Demand 3 is not empty: document 01's CQ of size 2, over three passes and into a fourth. Assumes nothing.
-use Prim.Native.Nat.{ℕ, zero, suc, _*_, _%_, _<_}
+use Prim.Native.Nat.{ℕ, _*_, _<_}
 use mathlib.Core.Bool.{false}
 use mathlib.Core.List.{List, [], _∷_, _++_}
 use mathlib.Core.Path.{_≡_, refl, sym, _∙_}
-use native.Mathlib.Nat.{mod-lt, zero-lt-suc}
-use native.Mathlib.Omega.{arith}
-use lib.Dec.{lit<}
 use lib.ListN.{replicate}
 use Rattle.rules.specs.Rules.{settle}
 use Rattle.bits.specs.Bits.{isSet, first, maskOf, someBelow}
@@ -20,28 +17,24 @@ use Rattle.ring.specs.Reader.{slotIn, phaseIn, readCount, readSlots, found}
 use Rattle.arbiter.specs.Turns as turns
 use Rattle.arbiter.specs.Arbiter as arbiter
 use Rattle.arbiter.specs.Word as word
 use Rattle.controller.specs.State.{outstanding, freshController}
 use Rattle.controller.specs.Rings.{someRing, shareByte, shares, outside}
 use Rattle.controller.specs.Create as create
 use Rattle.controller.specs.Doorbell as doorbell
 use Rattle.controller.specs.Verdict.{inUse, verdictOne}
 use Rattle.controller.specs.Starting as starting
 use Rattle.controller.specs.Finishing as finishing
 use Rattle.controller.specs.Answers.{Answer, refused, done, started, finished}
 use Rattle.controller.specs.Calls.{Call, createCq, createSq, tailWrite, headWrite, start, finish}
 use Rattle.controller.specs.Steps.{answers}
 use Rattle.controller.specs.Demand.{reader, History, ringBytes, sizeOf, headWrites, unreleased}
 use Rattle.controller.proofs.Demand.{demand3}
-use Rattle.controller.proofs.Undisturbed.{bytes-append, bytes-zeros, undisturbed}
-
--- submission entries of opcode 1, one for each CID
-abbrev pub entries : List ℕ → Memory
-entries [] = []
-entries (cid ∷ cids) = (1 ∷ 0 ∷ cid % 256 ∷ replicate 61 0) ++ entries cids
+use Rattle.controller.proofs.Undisturbed.{undisturbed}
+use Rattle.cases.proofs.Tested.{low-bytes, clear-is, entry}
 
 -- the completion ring at 0 is clear, and the submission ring at 4,096 holds four entries
 unfoldable pub memory : Memory
-memory = replicate 4096 0 ++ entries (10 ∷ 11 ∷ 12 ∷ 13 ∷ [])
+memory = replicate 4096 0 ++ entry 1 0 10 ++ entry 1 0 11 ++ entry 1 0 12 ++ entry 1 0 13
 
 -- "one posting, then 17; head write 1; slot 1 with tag 1; head write 0; slot 0 with tag 0": the first pass, and on to the fourth
 unfoldable pub calls : List Call
@@ -69,30 +62,18 @@ called =
     ∷ done ∷ posts 6 0
     ∷ []
 
-entries-bytes : (cids : List ℕ) → Bytes (entries cids)
-entries-bytes [] = λ i. lit< tt
-entries-bytes (cid ∷ cids) = bytes-append (1 ∷ 0 ∷ cid % 256 ∷ replicate 61 0) (entries cids) one (entries-bytes cids)
-  where
-    one : Bytes (1 ∷ 0 ∷ cid % 256 ∷ replicate 61 0)
-    one zero = lit< tt
-    one (suc zero) = lit< tt
-    one (suc (suc zero)) = mod-lt cid (zero-lt-suc 255)
-    one (suc (suc (suc i))) = bytes-zeros 61 i
-
 pub bytes : Bytes memory
 unfolding memory
-bytes = bytes-append (replicate 4096 0) (entries (10 ∷ 11 ∷ 12 ∷ 13 ∷ [])) (bytes-zeros 4096) (entries-bytes (10 ∷ 11 ∷ 12 ∷ 13 ∷ []))
+bytes = low-bytes memory refl
 
-pub clear : (i : ℕ) → i < 2 → phaseIn (part memory 0 (16 * 2)) i ≡ 0
+pub clears : (i : ℕ) → i < 2 → phaseIn (part memory 0 (16 * 2)) i ≡ 0
 unfolding memory phaseIn slotIn part phaseTag leAt
-clear zero h = refl
-clear (suc zero) h = refl
-clear (suc (suc i)) h = absurd (omega arith)
+clears = clear-is (part memory 0 (16 * 2)) 2 refl
 
 -- a history of real calls
 unfoldable pub example : History
 unfolding memory calls create.createCqRefusal shares someRing someBelow first
-example = undisturbed false 0 [] tt 0 2 0 memory bytes refl clear calls refl refl
+example = undisturbed false 0 [] tt 0 2 0 memory bytes refl clears calls refl refl
 
 -- what is answered, what the ring holds after it, and what the reader finds: the last entry alone, in slot 0 with tag 0
 pub three-passes : (answers (freshController false 0) memory (createCq 0 2 0 ∷ calls) ≡ called)

@@ -15,18 +15,18 @@ use Rattle.ring.specs.Doorbell as ring
 use Rattle.arbiter.specs.Word as word
 use Rattle.arbiter.specs.Turns as turns
 use Rattle.arbiter.specs.Arbiter as arbiter
 use Rattle.controller.specs.Controller.{Controller}
 use Rattle.controller.specs.State.{outstanding, freshController, withCommands, withNextNumber}
 use Rattle.controller.specs.Rings.{someRing, shareByte, shares, outside}
 use Rattle.controller.specs.Verdict.{inUse, verdictOne, verdictPair}
 use Rattle.controller.specs.Answers.{Answer, refused, started, refusing}
 use Rattle.controller.specs.Create as create
 use Rattle.controller.specs.Doorbell as doorbell
 use Rattle.controller.specs.Starting as starting
 use Rattle.controller.specs.Calls.{createCq, createSq, tailWrite, start, perform}
 use Rattle.controller.specs.Steps.{final, given}
 use Rattle.controller.specs.Numbers.{numbersIn}
-use Rattle.controller.proofs.HostWrites.{entry}
+use Rattle.cases.proofs.Tested.{entry}
 
 -- the completion ring at 0 is clear; the submission ring at 4,096 holds single commands, or a pair
 unfoldable pub singles : Memory

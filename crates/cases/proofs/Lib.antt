@@ -1,0 +1,6 @@
+pub mod Tested
+pub mod ThreePasses
+pub mod HostWrites
+pub mod TwoLifetimes
+pub mod LastNumber
+pub mod Replays
