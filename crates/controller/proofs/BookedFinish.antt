@@ -17,6 +17,7 @@ use Rattle.ring.proofs.Phase.{post, waiting-length}
 use Rattle.controller.specs.declared.Command.{Command}
 use Rattle.controller.specs.Controller.{Controller}
 use Rattle.controller.specs.State.{noCq, noCommand, cqAt, commandAt}
+use Rattle.controller.specs.Status.{failedFused}
 use Rattle.controller.specs.Finishing.{cqOf, full, statusOf, released, unlinked, posted, finishedController, completionOf}
 use Rattle.controller.specs.Finishing.{finishAnswer, postedMemory}
 use Rattle.controller.specs.Rings.{outside}
@@ -56,7 +57,7 @@ module _ (ks : List Command) (second status : ℕ) where
           record {
             sq = half u .sq;
             cid = half u .cid;
-            verdict = pick s (half u .verdict) (bookStatus (half u .verdict) 0x09);
+            verdict = pick s (half u .verdict) (bookStatus (half u .verdict) failedFused);
             first = 0;
             second = half u .second;
             number = half u .number;
@@ -65,7 +66,7 @@ module _ (ks : List Command) (second status : ℕ) where
       failed : Book
       failed =
           let k = b .commands u in
-          withCommand b u (record { sq = k .sq; cid = k .cid; verdict = bookStatus (k .verdict) 0x09; second = k .second })
+          withCommand b u (record { sq = k .sq; cid = k .cid; verdict = bookStatus (k .verdict) failedFused; second = k .second })
 
       go : (z s : Bool) → eqb second 0 ≡ z → (t : ℕ)
           → pick z b (pick s b failed) .commands t ≡ bookCommand (getD (pick z ks (set ks u (x s))) t noCommand)

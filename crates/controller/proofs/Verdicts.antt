@@ -16,6 +16,7 @@ use Rattle.ring.specs.Slots.{next, distance}
 use Rattle.controller.specs.declared.Ring.{Ring}
 use Rattle.controller.specs.Controller.{Controller}
 use Rattle.controller.specs.State.{sqAt, commandAt}
+use Rattle.controller.specs.Status.{invalidField, commandIdConflict, failedFused, missingFused}
 use Rattle.controller.specs.Verdict.{uses, inUse, oneRules, verdictOne, pairRules, verdictPair}
 use Rattle.controller.specs.Starting.{entryAt, isPair, used, headEntry, nextEntry, oneTaken, pairTaken}
 use Rattle.controller.specs.Answers.{StartAnswer, started}
@@ -62,15 +63,19 @@ is-pair id r m =
 
 -- ---- verdicts
 
--- v is 0, 02h, 03h or 0Ah exactly if Fine, Invalid, Conflict or Missing holds
+-- the standard's codes, once in numbers
+pub codes : (invalidField ≡ 0x02) × (commandIdConflict ≡ 0x03) × (failedFused ≡ 0x09) × (missingFused ≡ 0x0a)
+codes = (refl, refl, refl, refl)
+
+-- v is 0, Invalid Field, Command ID Conflict or Missing Fused Command exactly if Fine, Invalid, Conflict or Missing holds
 abbrev pub Judged : ℕ → Type 0 → Type 0 → Type 0 → Type 0 → Type 0
 Judged v Fine Invalid Conflict Missing =
-    ((v ≡ 0x00) ↔ Fine) × ((v ≡ 0x02) ↔ Invalid) × ((v ≡ 0x03) ↔ Conflict) × ((v ≡ 0x0a) ↔ Missing)
+    ((v ≡ 0) ↔ Fine) × ((v ≡ invalidField) ↔ Invalid) × ((v ≡ commandIdConflict) ↔ Conflict) × ((v ≡ missingFused) ↔ Missing)
 
 -- one of the four holds, with its verdict, and no two do
 module _ {v : ℕ} {A B C D : Type 0} where
   judged : (A → B → ⊥) → (A → C → ⊥) → (A → D → ⊥) → (B → C → ⊥) → (B → D → ⊥) → (C → D → ⊥)
-      → ((A × (v ≡ 0x00)) ⊎ ((B × (v ≡ 0x02)) ⊎ ((C × (v ≡ 0x03)) ⊎ (D × (v ≡ 0x0a))))) → Judged v A B C D
+      → ((A × (v ≡ 0)) ⊎ ((B × (v ≡ invalidField)) ⊎ ((C × (v ≡ commandIdConflict)) ⊎ (D × (v ≡ missingFused))))) → Judged v A B C D
   judged ab ac ad bc bd cd (inl h) = (
     (λ e. h .0, λ x. h .1),
     (λ e. absurd (omega (arith, h .1)), λ x. absurd (ab (h .0) x)),
@@ -98,7 +103,7 @@ module _ {v : ℕ} {A B C D : Type 0} where
 
 -- the four, each with its verdict
 abbrev OneOf : ℕ → Type 0 → Type 0 → Type 0 → Type 0 → Type 0
-OneOf v A B C D = (A × (v ≡ 0x00)) ⊎ ((B × (v ≡ 0x02)) ⊎ ((C × (v ≡ 0x03)) ⊎ (D × (v ≡ 0x0a))))
+OneOf v A B C D = (A × (v ≡ 0)) ⊎ ((B × (v ≡ invalidField)) ⊎ ((C × (v ≡ commandIdConflict)) ⊎ (D × (v ≡ missingFused))))
 
 -- ---- one command, the entry e, taken alone from queue id
 
@@ -123,12 +128,12 @@ module _ (c : Controller) (id : ℕ) (e : Submission) where
 
   abbrev oneReasons : Reasons
   oneReasons =
-      ((id ≡ 0) × (e .fuse ≡ 0 → ⊥), 0x02)
-      ∷ (e .fuse ≡ 3, 0x02)
-      ∷ (e .fuse ≡ 2, 0x0a)
-      ∷ (e .fuse ≡ 1, 0x0a)
-      ∷ ((e .psdt ≡ 0 → ⊥), 0x02)
-      ∷ (Used, 0x03)
+      ((id ≡ 0) × (e .fuse ≡ 0 → ⊥), invalidField)
+      ∷ (e .fuse ≡ 3, invalidField)
+      ∷ (e .fuse ≡ 2, missingFused)
+      ∷ (e .fuse ≡ 1, missingFused)
+      ∷ ((e .psdt ≡ 0 → ⊥), invalidField)
+      ∷ (Used, commandIdConflict)
       ∷ []
 
   one-decided : Decided oneReasons (verdictOne id e (used c id e))
@@ -197,10 +202,10 @@ module _ (c : Controller) (id : ℕ) (a b : Submission) where
 
   abbrev pairReasons : Reasons
   pairReasons =
-      (((a .opc ≡ 0x05) × (b .opc ≡ 0x01) → ⊥), 0x02)
-      ∷ (((a .nsid ≡ b .nsid) × ((a .slba ≡ b .slba) × (a .nlb ≡ b .nlb)) → ⊥), 0x02)
-      ∷ (((a .psdt ≡ 0) × (b .psdt ≡ 0) → ⊥), 0x02)
-      ∷ (Clash, 0x03)
+      (((a .opc ≡ 0x05) × (b .opc ≡ 0x01) → ⊥), invalidField)
+      ∷ (((a .nsid ≡ b .nsid) × ((a .slba ≡ b .slba) × (a .nlb ≡ b .nlb)) → ⊥), invalidField)
+      ∷ (((a .psdt ≡ 0) × (b .psdt ≡ 0) → ⊥), invalidField)
+      ∷ (Clash, commandIdConflict)
       ∷ []
 
   abbrev v : ℕ
