@@ -283,7 +283,7 @@ module _ (c d : Controller) (e : unnumberedController c ≡ unnumberedController
         nextNumber = d .nextNumber;
       }) (sym e)
 
-  -- two controllers that differ in start numbers alone come to the same by a call, but for numbers, as long as either has numbers left
+  -- two controllers that differ in start numbers alone come to the same by a call, but for numbers, as long as both have numbers left
   pub alike : (m : Memory) (call : Call) → AlikeOr32 (perform c m call) (perform d m call)
   alike m call =
       subst (λ x. AlikeOr32 (perform c m call) (perform x m call)) (sym as-renumbered)
