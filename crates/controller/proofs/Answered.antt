@@ -13,6 +13,7 @@ use Rattle.bits.specs.declared.TakenOne.the-variants.{Tag, NoneFree}
 use Rattle.bits.specs.declared.TakenTwo.{TakenTwo}
 use Rattle.bits.specs.declared.TakenTwo.the-variants.{Tags, TooFew}
 use Rattle.le.specs.Memory.{Memory}
+use Rattle.entry.specs.declared.submission.Submission.{Submission}
 use Rattle.arbiter.specs.Arbiter.{choice}
 use Rattle.arbiter.specs.declared.Arbiter.{Arbiter}
 use Rattle.arbiter.specs.declared.Chosen.{Chosen}
@@ -24,7 +25,7 @@ use Rattle.controller.specs.Create as create
 use Rattle.controller.specs.Delete as delete
 use Rattle.controller.specs.Doorbell as doorbell
 use Rattle.controller.specs.Starting as starting
-use Rattle.controller.specs.Starting.{candidates, isPair, headEntry, nextEntry, oneVerdict, pairVerdict, oneTaken, pairTaken, withOne}
+use Rattle.controller.specs.Starting.{candidates, isPair, oneTaken, pairTaken, withOne}
 use Rattle.controller.specs.Starting.{numberRules, withTwo, takeOne, takePair, takeFrom, startRules}
 use Rattle.controller.specs.Finishing as finishing
 use Rattle.controller.specs.Calls.{Call, createCq, createSq, deleteCq, deleteSq, tailWrite, headWrite, start, finish, perform}
@@ -41,23 +42,22 @@ module _ (c : Controller) (m : Memory) where
   no-number n z = inl (_, inr (inr (inr (among (numberRules n) z))), refl)
 
   module _ (id : ℕ) (a : Arbiter) where
-    one : (x : TakenOne) → Answered c m start (withOne c m (oneTaken c m id a (headEntry c m id) (oneVerdict c m id)) x)
+    one : (e : Submission) (v : ℕ) (x : TakenOne) → Answered c m start (withOne c m (oneTaken c m id a e v) x)
     unfolding oneTaken
-    one NoneFree = inl (13, inr (inr (inl refl)), refl)
-    one (Tag t left) = settle-cases (Answered c m start) _ _ _ (λ z. inr (_, refl)) (λ z. no-number (c .nextNumber) z)
+    one e v NoneFree = inl (13, inr (inr (inl refl)), refl)
+    one e v (Tag t left) = settle-cases (Answered c m start) _ _ _ (λ z. inr (_, refl)) (λ z. no-number (c .nextNumber) z)
 
-    pair : (x : TakenTwo)
-        → Answered c m start (withTwo c m (pairTaken c m id a (headEntry c m id) (nextEntry c m id) (pairVerdict c m id)) x)
+    pair : (e f : Submission) (v : ℕ) (x : TakenTwo) → Answered c m start (withTwo c m (pairTaken c m id a e f v) x)
     unfolding pairTaken
-    pair TooFew = inl (13, inr (inr (inl refl)), refl)
-    pair (Tags t u left) = settle-cases (Answered c m start) _ _ _ (λ z. inr (_, refl)) (λ z. no-number (c .nextNumber + 1) z)
+    pair e f v TooFew = inl (13, inr (inr (inl refl)), refl)
+    pair e f v (Tags t u left) = settle-cases (Answered c m start) _ _ _ (λ z. inr (_, refl)) (λ z. no-number (c .nextNumber + 1) z)
 
   taken : (x : Chosen) → Answered c m start (takeFrom c m x)
   unfolding takeOne takePair
   taken Nobody = inl (12, inr (inl refl), refl)
   taken (Queue id a) =
-      pick-cases (Answered c m start) (isPair id (sqAt c id .ring) m) _ _ (λ e. pair id a (takenTwo (c .free)))
-      (λ e. one id a (takenOne (c .free)))
+      pick-cases (Answered c m start) (isPair id (sqAt c id .ring) m) _ _ (λ e. pair id a _ _ _ (takenTwo (c .free)))
+      (λ e. one id a _ _ (takenOne (c .free)))
 
   -- 1, 9 and 11 on a tail write mark nothing, and 10 stands behind them
   unmarked : (n id v : ℕ) → Among n (1 ∷ 9 ∷ 11 ∷ []) → (leftBy n c (tailWrite id v) ≡ c) × Among n (refusals (tailWrite id v))

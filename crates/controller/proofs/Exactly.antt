@@ -22,6 +22,7 @@ use Rattle.bits.specs.declared.TakenTwo.the-variants.{Tags, TooFew}
 use Rattle.bits.proofs.Some.{some-which}
 use Rattle.bits.proofs.Tags.{one-taken, two-taken, none-free, too-few, free-pos}
 use Rattle.le.specs.Memory.{Memory}
+use Rattle.entry.specs.declared.submission.Submission.{Submission}
 use Rattle.ring.specs.Slots.{next}
 use Rattle.ring.proofs.Exactly.{says-full, TailValue, HeadValue, says-tail, says-head, WrongSize}
 use Rattle.arbiter.specs.Arbiter.{choice}
@@ -38,7 +39,7 @@ use Rattle.controller.specs.Create as create
 use Rattle.controller.specs.Delete as delete
 use Rattle.controller.specs.Doorbell as doorbell
 use Rattle.controller.specs.Starting as starting
-use Rattle.controller.specs.Starting.{candidates, isPair, headEntry, nextEntry, oneVerdict, pairVerdict, oneTaken}
+use Rattle.controller.specs.Starting.{candidates, isPair, oneVerdict, pairVerdict, oneTaken}
 use Rattle.controller.specs.Starting.{pairTaken, lastNumber, numberRules, withNumbers, withOne, withTwo, takeOne, takePair}
 use Rattle.controller.specs.Starting.{takeFrom, startRules}
 use Rattle.controller.specs.Finishing as finishing
@@ -352,15 +353,15 @@ module _ {c : Controller} (r : Reachable c) (m : Memory) where
           settled c m o (numberRules n) ((NumberAbove c m, 32) ∷ []) [] tt (refl, says-above n (rw f l), λ w. tt) (λ w. z),
         )
 
-    one : isPair id (sqAt c id .ring) m ≡ false → Decided (takeReasons c m) (number (takeOne c m id a))
+    one : (first : Submission) → isPair id (sqAt c id .ring) m ≡ false → Decided (takeReasons c m) (number (takeOne c m id a first))
     unfolding takeOne oneTaken
-    one p = go (takenOne (c .free)) refl
+    one first p = go (takenOne (c .free)) refl
       where
         h : c .free < 2 ^ 64
         h = valid r .free-64
 
         go : (x : TakenOne) → takenOne (c .free) ≡ x
-            → Decided (takeReasons c m) (number (withOne c m (oneTaken c m id a (headEntry c m id) (oneVerdict c m id)) x))
+            → Decided (takeReasons c m) (number (withOne c m (oneTaken c m id a first (oneVerdict c id first)) x))
         go NoneFree q =
             let z = none-free (c .free) h .0 q in
             few {k = 1} (rw p)
@@ -368,16 +369,16 @@ module _ {c : Controller} (r : Reachable c) (m : Memory) where
             (λ (l : 1 ≤ freeCount (c .free)). absurd (omega (arith, free-pos (c .free) h .0 l))) (lt-or-ge (freeCount (c .free)) 1))
         go (Tag t left) q = enough {k = 1} (c .nextNumber) _ (rw p) (omega (arith, one-taken (c .free) h q .fewer)) refl refl
 
-    pair : isPair id (sqAt c id .ring) m ≡ true → Decided (takeReasons c m) (number (takePair c m id a))
+    pair : (first second : Submission) → isPair id (sqAt c id .ring) m ≡ true
+        → Decided (takeReasons c m) (number (takePair c m id a first second))
     unfolding takePair pairTaken
-    pair p = go (takenTwo (c .free)) refl
+    pair first second p = go (takenTwo (c .free)) refl
       where
         h : c .free < 2 ^ 64
         h = valid r .free-64
 
         go : (x : TakenTwo) → takenTwo (c .free) ≡ x
-            → Decided (takeReasons c m)
-            (number (withTwo c m (pairTaken c m id a (headEntry c m id) (nextEntry c m id) (pairVerdict c m id)) x))
+            → Decided (takeReasons c m) (number (withTwo c m (pairTaken c m id a first second (pairVerdict c id first second)) x))
         go TooFew q = few {k = 2} (rw p) (too-few (c .free) h .0 q)
         go (Tags t u left) q =
             enough {k = 2} (c .nextNumber + 1) _ (rw p) (omega (arith, two-taken (c .free) h q .fewer)) (omega arith) refl
@@ -388,7 +389,7 @@ module _ {c : Controller} (r : Reachable c) (m : Memory) where
   chosen-decided (Queue id a) e =
       inr (
         λ n. not-nobody e (nobody-waits c (valid r) .1 n),
-        pick-cases (λ o. Decided (takeReasons c m) (number o)) (isPair id (sqAt c id .ring) m) _ _ (pair id a e) (one id a e),
+        pick-cases (λ o. Decided (takeReasons c m) (number o)) (isPair id (sqAt c id .ring) m) _ _ (pair id a e _ _) (one id a e _),
       )
 
   pub start-refusal : Decided (startReasons c m) (number (perform c m start))

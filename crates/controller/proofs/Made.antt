@@ -118,12 +118,19 @@ pub record Finishable (c : Controller) (n tag status : ℕ) : Type 0 where
 
 -- ---- the cases
 
+-- the entry at the head of queue id is taken, and a pair there
+abbrev headOneTaken : Controller → Memory → ℕ → Arbiter → ℕ → ℕ → Outcome
+headOneTaken c m id a = let e = headEntry c m id in oneTaken c m id a e (oneVerdict c id e)
+
+abbrev headPairTaken : Controller → Memory → ℕ → Arbiter → ℕ → ℕ → ℕ → Outcome
+headPairTaken c m id a = let e = headEntry c m id in let f = nextEntry c m id in pairTaken c m id a e f (pairVerdict c id e f)
+
 -- a start, or a finish
 pub data CommandMade (c : Controller) (m : Memory) : Call → Outcome → Type 0 where
   takes-one : (id : ℕ) (a : Arbiter) (t left : ℕ) → Served c m id a → isPair id (sqAt c id .ring) m ≡ false → OneTaken (c .free) t left
-      → CommandMade c m start (oneTaken c m id a (headEntry c m id) (oneVerdict c m id) t left)
+      → CommandMade c m start (headOneTaken c m id a t left)
   takes-pair : (id : ℕ) (a : Arbiter) (t u left : ℕ) → Served c m id a → isPair id (sqAt c id .ring) m ≡ true → TwoTaken (c .free) t u left
-      → CommandMade c m start (pairTaken c m id a (headEntry c m id) (nextEntry c m id) (pairVerdict c m id) t u left)
+      → CommandMade c m start (headPairTaken c m id a t u left)
   finishes : (tag status result : ℕ) → Finishable c (length m) tag status
       → CommandMade c m (finish tag status result)
       (outcome (finished (finishAnswer c tag))
@@ -277,24 +284,24 @@ module _ (c : Controller) (m : Memory) where
         let l = ltb-false lastNumber n (passed (numberRules n) tt z .0) in
         record { inside = i; choice = q; candidate = chosen c q; numbers = omega (arith, l, e) }
 
-    one-made : isPair id (sqAt c id .ring) m ≡ false → Made c m start (takeOne c m id a)
+    one-made : isPair id (sqAt c id .ring) m ≡ false → Made c m start (takeOne c m id a (headEntry c m id))
     unfolding takeOne
     one-made e = go (takenOne (c .free)) refl
       where
         go : (x : TakenOne) → takenOne (c .free) ≡ x
-            → Made c m start (withOne c m (oneTaken c m id a (headEntry c m id) (oneVerdict c m id)) x)
+            → Made c m start (withOne c m (headOneTaken c m id a) x)
         go NoneFree w = refuses start 13
         go (Tag t left) w =
             settle-cases (Made c m start) _ _ _
             (λ z. commands (takes-one id a t left (served (c .nextNumber) z (rw e)) e (one-taken (c .free) h w)))
             (λ n. refuses start _)
 
-    pair-made : isPair id (sqAt c id .ring) m ≡ true → Made c m start (takePair c m id a)
+    pair-made : isPair id (sqAt c id .ring) m ≡ true → Made c m start (takePair c m id a (headEntry c m id) (nextEntry c m id))
     unfolding takePair
     pair-made e = go (takenTwo (c .free)) refl
       where
         go : (x : TakenTwo) → takenTwo (c .free) ≡ x
-            → Made c m start (withTwo c m (pairTaken c m id a (headEntry c m id) (nextEntry c m id) (pairVerdict c m id)) x)
+            → Made c m start (withTwo c m (headPairTaken c m id a) x)
         go TooFew w = refuses start 13
         go (Tags t u left) w =
             settle-cases (Made c m start) _ _ _
@@ -358,9 +365,9 @@ module _ (c : Controller) (m : Memory) (P : StartAnswer → Controller → Type 
   Shown o = IfStarted (λ s. P s (o .controller)) (o .answer)
 
   module _ (one : (id : ℕ) (a : Arbiter) (t left : ℕ) → Served c m id a → isPair id (sqAt c id .ring) m ≡ false → OneTaken (c .free) t left
-      → Shown (oneTaken c m id a (headEntry c m id) (oneVerdict c m id) t left))
+      → Shown (headOneTaken c m id a t left))
       (pair : (id : ℕ) (a : Arbiter) (t u left : ℕ) → Served c m id a → isPair id (sqAt c id .ring) m ≡ true → TwoTaken (c .free) t u left
-      → Shown (pairTaken c m id a (headEntry c m id) (nextEntry c m id) (pairVerdict c m id) t u left)) where
+      → Shown (headPairTaken c m id a t u left)) where
     shown : {call : Call} {o : Outcome} → Commands c m call o → Shown o
     shown (refused-leaves call n xs) = tt
     shown (done-leaves call xs ys) = tt

@@ -183,14 +183,16 @@ module _ (c : Controller) (ks : List Command) (n : ℕ) (h : Same (c .commands) 
     used-alike : (e : Submission) → used c id e ≡ used d id e
     used-alike e = used-same (c .commands) ks h (c .free) id (e .cid)
 
-    take-one : AlikeOr32 (takeOne c m id a) (takeOne d m id a)
+    take-one : let e = headEntry c m id in AlikeOr32 (takeOne c m id a e) (takeOne d m id a e)
     unfolding takeOne
-    take-one = rw (← used-alike (headEntry c m id)) (with-one (oneVerdict c m id) (takenOne (c .free)))
+    take-one = let e = headEntry c m id in rw (← used-alike e) (with-one (oneVerdict c id e) (takenOne (c .free)))
 
-    take-pair : AlikeOr32 (takePair c m id a) (takePair d m id a)
+    take-pair : let e = headEntry c m id in let f = nextEntry c m id in AlikeOr32 (takePair c m id a e f) (takePair d m id a e f)
     unfolding takePair
     take-pair =
-        rw (← used-alike (headEntry c m id), ← used-alike (nextEntry c m id)) (with-two (pairVerdict c m id) (takenTwo (c .free)))
+        let e = headEntry c m id in
+        let f = nextEntry c m id in
+        rw (← used-alike e, ← used-alike f) (with-two (pairVerdict c id e f) (takenTwo (c .free)))
 
   take-from : (x : Chosen) → AlikeOr32 (takeFrom c m x) (takeFrom d m x)
   take-from Nobody = both-alike (refusing-alike 12)

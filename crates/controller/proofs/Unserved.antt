@@ -10,6 +10,7 @@ use Rattle.rules.specs.Rules.{pick, firstMatch, settle}
 use Rattle.rules.proofs.Cases.{pick-cases, settle-cases}
 use Rattle.bits.specs.Tags.{takenOne, takenTwo}
 use Rattle.le.specs.Memory.{Memory}
+use Rattle.entry.specs.declared.submission.Submission.{Submission}
 use Rattle.bits.specs.declared.TakenOne.{TakenOne}
 use Rattle.bits.specs.declared.TakenOne.the-variants.{Tag, NoneFree}
 use Rattle.bits.specs.declared.TakenTwo.{TakenTwo}
@@ -48,19 +49,18 @@ module _ (c : Controller) (m : Memory) where
   with-two f z TooFew = λ e. omega arith
   with-two f z (Tags t u left) = with-number (c .nextNumber + 1) (f t u left) (z t u left)
 
-  one : (id : ℕ) (a : Arbiter) → Number (takeOne c m id a) ≡ 12 → ⊥
+  one : (id : ℕ) (a : Arbiter) (e : Submission) → Number (takeOne c m id a e) ≡ 12 → ⊥
   unfolding takeOne oneTaken
-  one id a = with-one _ (λ t left. refl) (takenOne (c .free))
+  one id a e = with-one _ (λ t left. refl) (takenOne (c .free))
 
-  two : (id : ℕ) (a : Arbiter) → Number (takePair c m id a) ≡ 12 → ⊥
+  two : (id : ℕ) (a : Arbiter) (e f : Submission) → Number (takePair c m id a e f) ≡ 12 → ⊥
   unfolding takePair pairTaken
-  two id a = with-two _ (λ t u left. refl) (takenTwo (c .free))
+  two id a e f = with-two _ (λ t u left. refl) (takenTwo (c .free))
 
   taken : (x : Chosen) → Number (takeFrom c m x) ≡ 12 → x ≡ Nobody
   taken Nobody e = refl
   taken (Queue id a) e =
-      absurd (pick-cases (λ s. Number s ≡ 12 → ⊥) (isPair id (sqAt c id .ring) m) (takePair c m id a) (takeOne c m id a) (λ h. two id a)
-      (λ h. one id a) e)
+      absurd (pick-cases (λ s. Number s ≡ 12 → ⊥) (isPair id (sqAt c id .ring) m) _ _ (λ h. two id a _ _) (λ h. one id a _) e)
 
   settled : (b : Bool) (x : Outcome) → Number (settle (pick b 5 0) (refusing c m) x) ≡ 12 → (b ≡ false) × (Number x ≡ 12)
   unfolding settle

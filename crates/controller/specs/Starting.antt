@@ -121,27 +121,25 @@ headEntry c m id = let r = sqAt c id .ring in entryAt m r (r .head)
 abbrev pub nextEntry : Controller → Memory → ℕ → Submission
 nextEntry c m id = let r = sqAt c id .ring in entryAt m r (next (r .size) (r .head))
 
--- the verdict on the head of queue id, taken alone, and as a pair
-abbrev pub oneVerdict : Controller → Memory → ℕ → ℕ
-oneVerdict c m id = let e = headEntry c m id in verdictOne id e (used c id e)
+-- the verdict on the entry e of queue id, taken alone, and on e and f as a pair
+abbrev pub oneVerdict : Controller → ℕ → Submission → ℕ
+oneVerdict c id e = verdictOne id e (used c id e)
 
-abbrev pub pairVerdict : Controller → Memory → ℕ → ℕ
-pairVerdict c m id =
-    let e = headEntry c m id in
-    let f = nextEntry c m id in
-    verdictPair e f (used c id e) (used c id f)
+abbrev pub pairVerdict : Controller → ℕ → Submission → Submission → ℕ
+pairVerdict c id e f = verdictPair e f (used c id e) (used c id f)
 
-unfoldable pub takeOne : Controller → Memory → ℕ → Arbiter → Outcome
-takeOne c m id a = withOne c m (oneTaken c m id a (headEntry c m id) (oneVerdict c m id)) (takenOne (c .free))
+-- the entry e, or the pair e and f, is taken from the head of queue id, if tags and numbers are left
+unfoldable pub takeOne : Controller → Memory → ℕ → Arbiter → Submission → Outcome
+takeOne c m id a e = withOne c m (oneTaken c m id a e (oneVerdict c id e)) (takenOne (c .free))
 
-unfoldable pub takePair : Controller → Memory → ℕ → Arbiter → Outcome
-takePair c m id a =
-    withTwo c m (pairTaken c m id a (headEntry c m id) (nextEntry c m id) (pairVerdict c m id)) (takenTwo (c .free))
+unfoldable pub takePair : Controller → Memory → ℕ → Arbiter → Submission → Submission → Outcome
+takePair c m id a e f = withTwo c m (pairTaken c m id a e f (pairVerdict c id e f)) (takenTwo (c .free))
 
 -- "One start takes one command, or a whole pair": from the queue chosen, and 12 where there is none
 abbrev pub takeFrom : Controller → Memory → Chosen → Outcome
 takeFrom c m C.Nobody = refusing c m (chosenAnswer (c .arbiter) C.Nobody .0)
-takeFrom c m (C.Queue id a) = pick (isPair id (sqAt c id .ring) m) (takePair c m id a) (takeOne c m id a)
+takeFrom c m (C.Queue id a) =
+    pick (isPair id (sqAt c id .ring) m) (takePair c m id a (headEntry c m id) (nextEntry c m id)) (takeOne c m id a (headEntry c m id))
 
 -- "start 5, 12, 13", then 32: 12 is answered by the choice, 13 by the tags, 32 by the next number
 abbrev pub startRules : Controller → ℕ → Table

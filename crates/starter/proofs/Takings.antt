@@ -25,7 +25,7 @@ use Rattle.controller.specs.Rings.{outside}
 use Rattle.controller.specs.Verdict.{verdictOne, verdictPair}
 use Rattle.controller.specs.Valid.{Valid}
 use Rattle.controller.specs.Answers.{Outcome, outcome, refusing}
-use Rattle.controller.specs.Starting.{candidates, entryAt, isPair, passed, command, oneTaken, pairTaken, used, headEntry, nextEntry}
+use Rattle.controller.specs.Starting.{candidates, entryAt, isPair, passed, command, oneTaken, pairTaken, used}
 use Rattle.controller.specs.Starting.{lastNumber, takeOne, takePair, takeFrom, start}
 use Rattle.controller.specs.Calls.{ofStarted}
 use Rattle.controller.proofs.Choosing.{chosen}
@@ -57,58 +57,57 @@ module _ (c : Controller) where
 
 -- ---- what is taken from queue id, with the arbiter a left
 
-module _ (c : Controller) (m : Memory) (id : ℕ) (a : Arbiter) where
-  pub one-refused : takenOne (c .free) ≡ NoneFree → refusing c m 13 ≡ takeOne c m id a
+module _ (c : Controller) (m : Memory) (id : ℕ) (a : Arbiter) (e : Submission) where
+  pub one-refused : takenOne (c .free) ≡ NoneFree → refusing c m 13 ≡ takeOne c m id a e
   unfolding takeOne
   one-refused q = rw q
 
-  pub pair-refused : takenTwo (c .free) ≡ TooFew → refusing c m 13 ≡ takePair c m id a
-  unfolding takePair
-  pair-refused q = rw q
-
   pub one-numberless : {t left : ℕ} → takenOne (c .free) ≡ Tag t left → {n : ℕ} → n ≡ c .nextNumber → lastNumber < n
-      → refusing c m 32 ≡ takeOne c m id a
+      → refusing c m 32 ≡ takeOne c m id a e
   unfolding takeOne settle
-  one-numberless q e l = rw (q, ← e, lt-ltb _ _ l)
-
-  pub pair-numberless : {t u left : ℕ} → takenTwo (c .free) ≡ Tags t u left → {n : ℕ} → n ≡ c .nextNumber → lastNumber ≤ n
-      → refusing c m 32 ≡ takePair c m id a
-  unfolding takePair settle
-  pair-numberless q {n} e l = rw (q, ← e, lt-ltb lastNumber (n + 1) (omega arith))
+  one-numberless q i l = rw (q, ← i, lt-ltb _ _ l)
 
   -- the head moves, then the command is stored, then the tags, the turn and the next number that are left
-  pub one-started : {e : Submission} → e ≡ headEntry c m id → {t left : ℕ} → takenOne (c .free) ≡ Tag t left
+  pub one-started : {t left : ℕ} → takenOne (c .free) ≡ Tag t left
       → {u : Bool} → u ≡ (used c id e || used c id e) → {v : ℕ} → v ≡ verdictOne id e u
       → {slot : ℕ} → slot ≡ sqAt c id .ring .head → {n : ℕ} → n ≡ c .nextNumber → n ≤ lastNumber
       → (d k l : Controller) → d ≡ withSq c id (passed (sqAt c id) 1)
       → k ≡ withCommands d (set (d .commands) t (command id (e .cid) v 0 0 n)) (d .free) (d .arbiter)
       → l ≡ withNextNumber (withCommands k (k .commands) left a) (n + 1)
-      → outcome (ofStarted (S.One id t slot v n)) l m ≡ takeOne c m id a
+      → outcome (ofStarted (S.One id t slot v n)) l m ≡ takeOne c m id a e
   unfolding takeOne oneTaken settle
-  one-started h q x y s {n} i b d k l f g w = rw (w, g, f, s, y, x, or-same, h, q, ← i, le-ltb lastNumber n b)
+  one-started q x y s {n} i b d k l f g w = rw (w, g, f, s, y, x, or-same, q, ← i, le-ltb lastNumber n b)
 
-  pub pair-started : {e f : Submission} → e ≡ headEntry c m id → f ≡ nextEntry c m id
-      → {t u left : ℕ} → takenTwo (c .free) ≡ Tags t u left
+module _ (c : Controller) (m : Memory) (id : ℕ) (a : Arbiter) (e f : Submission) where
+  pub pair-refused : takenTwo (c .free) ≡ TooFew → refusing c m 13 ≡ takePair c m id a e f
+  unfolding takePair
+  pair-refused q = rw q
+
+  pub pair-numberless : {t u left : ℕ} → takenTwo (c .free) ≡ Tags t u left → {n : ℕ} → n ≡ c .nextNumber → lastNumber ≤ n
+      → refusing c m 32 ≡ takePair c m id a e f
+  unfolding takePair settle
+  pair-numberless q {n} i l = rw (q, ← i, lt-ltb lastNumber (n + 1) (omega arith))
+
+  pub pair-started : {t u left : ℕ} → takenTwo (c .free) ≡ Tags t u left
       → {v : ℕ} → v ≡ verdictPair e f (used c id e) (used c id f)
       → {slot : ℕ} → slot ≡ sqAt c id .ring .head → {n : ℕ} → n ≡ c .nextNumber → n < lastNumber
       → (d j k l : Controller) → d ≡ withSq c id (passed (sqAt c id) 2)
       → j ≡ withCommands d (set (d .commands) t (command id (e .cid) v 0 (u + 1) n)) (d .free) (d .arbiter)
       → k ≡ withCommands j (set (j .commands) u (command id (f .cid) v (t + 1) 0 (n + 1))) (j .free) (j .arbiter)
       → l ≡ withNextNumber (withCommands k (k .commands) left a) (n + 2)
-      → outcome (ofStarted (S.Pair id t u slot v n)) l m ≡ takePair c m id a
+      → outcome (ofStarted (S.Pair id t u slot v n)) l m ≡ takePair c m id a e f
   unfolding takePair pairTaken settle
-  pair-started h i q y s {n} x b d j k l f g w z = rw (z, w, g, f, s, y, h, i, q, ← x, le-ltb lastNumber (n + 1) (omega arith))
+  pair-started q y s {n} x b d j k l p g w z = rw (z, w, g, p, s, y, q, ← x, le-ltb lastNumber (n + 1) (omega arith))
 
-  -- by what stands at the head of the queue that was read
-  module _ {q : SubmissionQueue} (e : q ≡ sqAt c id) {p : Bool} (f : p ≡ isPair id (q .ring) m)
-      {x : Submission} (g : x ≡ entryAt m (q .ring) (q .ring .head)) {o : Outcome} where
-    pub from-one : p ≡ false → (x ≡ headEntry c m id → o ≡ takeOne c m id a) → o ≡ takeFrom c m (Queue id a)
-    from-one n k = k (rw (← e) g) ∙ rw (← e, ← f, n)
+-- by what stands at the head of the queue that was read
+module _ (c : Controller) (m : Memory) (id : ℕ) (a : Arbiter) {q : SubmissionQueue} (e : q ≡ sqAt c id) {p : Bool}
+    (f : p ≡ isPair id (q .ring) m) {x : Submission} (g : x ≡ entryAt m (q .ring) (q .ring .head)) {o : Outcome} where
+  pub from-one : p ≡ false → o ≡ takeOne c m id a x → o ≡ takeFrom c m (Queue id a)
+  from-one n k = rw (← e, ← f, n, ← g) k
 
-    pub from-pair : p ≡ true → {y : Submission} → y ≡ entryAt m (q .ring) (next (q .ring .size) (q .ring .head))
-        → (x ≡ headEntry c m id → y ≡ nextEntry c m id → o ≡ takePair c m id a)
-        → o ≡ takeFrom c m (Queue id a)
-    from-pair n h k = k (rw (← e) g) (rw (← e) h) ∙ rw (← e, ← f, n)
+  pub from-pair : p ≡ true → {y : Submission} → y ≡ entryAt m (q .ring) (next (q .ring .size) (q .ring .head))
+      → o ≡ takePair c m id a x y → o ≡ takeFrom c m (Queue id a)
+  from-pair n h k = rw (← e, ← f, n, ← g, ← h) k
 
 -- ---- the start
 

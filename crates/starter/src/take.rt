@@ -4,7 +4,7 @@ ghost use Prim.Native.Nat.{_+_, _%_, _≤_, _<_};
 ghost use Rattle.le.specs.Memory.{Memory};
 ghost use Rattle.controller.specs.Answers.{outcome};
 ghost use Rattle.controller.specs.Calls.{ofStarted};
-ghost use Rattle.controller.specs.Starting.{passed, headEntry, nextEntry, takeOne, takePair};
+ghost use Rattle.controller.specs.Starting.{passed, takeOne, takePair};
 ghost use Rattle.controller.specs.State.{sqAt, withSq, withCommands, withNextNumber};
 ghost use Rattle.controller.specs.Valid.{RingOk};
 ghost use Rattle.store.specs.Held.{held, Sound, Holds};
@@ -65,8 +65,8 @@ fn leave(state: &mut [u64; WORDS], free: u64, arbiter: Arbiter, number: u64)
 // The entry e at the head of queue id is taken with the lowest free tag.
 pub fn take_one(state: &mut [u64; WORDS], id: u8, next: Arbiter, e: Submission) -> Started
     requires { ⌜ (id < 16) × Sound (now state) × RingOk (sqAt (held (now state)) id .ring) ⌝ }
-    ensures { λ r. ⌜ Sound (now (state .exit)) × (let c = held (now (state .entry)) in
-        (m : Memory) → e ≡ headEntry c m id → outcome (ofStarted r) (held (now (state .exit))) m ≡ takeOne c m id next) ⌝ }
+    ensures { λ r. ⌜ Sound (now (state .exit)) × ((m : Memory) → outcome (ofStarted r) (held (now (state .exit))) m
+        ≡ takeOne (held (now (state .entry))) m id next e) ⌝ }
 {
     let TakenOne::Tag(tag, left) = bits::take_one(free_of(state)) else {
         return Started::Refused(13);
@@ -109,8 +109,8 @@ pub fn take_pair(
     f: Submission,
 ) -> Started
     requires { ⌜ (id < 16) × Sound (now state) × RingOk (sqAt (held (now state)) id .ring) ⌝ }
-    ensures { λ r. ⌜ Sound (now (state .exit)) × (let c = held (now (state .entry)) in (m : Memory) → e ≡ headEntry c m id
-        → f ≡ nextEntry c m id → outcome (ofStarted r) (held (now (state .exit))) m ≡ takePair c m id next) ⌝ }
+    ensures { λ r. ⌜ Sound (now (state .exit)) × ((m : Memory) → outcome (ofStarted r) (held (now (state .exit))) m
+        ≡ takePair (held (now (state .entry))) m id next e f) ⌝ }
 {
     let TakenTwo::Tags(first, second, left) = bits::take_two(free_of(state)) else {
         return Started::Refused(13);

@@ -33,15 +33,15 @@ low c = one-taken _ (search needs) (sym (tag c .take-one .ensures .0) ∙ c .bef
 none-free : tie.Need-returns
 none-free c =
     let t = c .before .before in
-    (entry t .pre .1, λ m h. one-refused (held (entry t .args .state .now)) m _ _ (found t ∙ c .enum-told .given .1))
+    (entry t .pre .1, λ m. one-refused (held (entry t .args .state .now)) m _ _ _ (found t ∙ c .enum-told .given .1))
 
 no-number : tie.Need-returns-2
 no-number c =
     let n = c .before in
     let t = tag (known n) in (
       entry t .pre .1,
-      λ m h.
-          one-numberless (held (entry t .args .state .now)) m _ _ (found t ∙ known n .before .tag .given .1) (n .next-number .ensures)
+      λ m.
+          one-numberless (held (entry t .args .state .now)) m _ _ _ (found t ∙ known n .before .tag .given .1) (n .next-number .ensures)
           (c .if1 .taken),
     )
 
@@ -61,8 +61,8 @@ returns-3 c =
     let n = known (i .before) in
     let s = entry (tag n) in (
       c .leave .ensures .sound,
-      λ m h.
-          one-started (held (s .args .state .now)) m _ _ h (found (tag n) ∙ n .before .tag .given .1) (u .in-use .ensures)
+      λ m.
+          one-started (held (s .args .state .now)) m _ _ _ (found (tag n) ∙ n .before .tag .given .1) (u .in-use .ensures)
           (v .verdict-one .ensures) (p .pass .ensures .0) (i .before .next-number .ensures) (i .if1 .left)
           (held (p .pass .last .0)) (held (k .put-command .last .0)) _
           (p .pass .ensures .1 .is) (k .put-command .ensures .is) (c .leave .ensures .is),

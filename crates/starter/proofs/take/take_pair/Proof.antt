@@ -36,16 +36,16 @@ number c = c .before .before .before .before .before .before
 too-few : tie.Need-returns
 too-few c =
     let t = c .before .before in
-    (entry t .pre .1, λ m h i. pair-refused (held (entry t .args .state .now)) m _ _ (found t ∙ c .enum-told .given .1))
+    (entry t .pre .1, λ m. pair-refused (held (entry t .args .state .now)) m _ _ _ _ (found t ∙ c .enum-told .given .1))
 
 no-number : tie.Need-returns-2
 no-number c =
     let n = c .before in
     let t = tags (known n) in (
       entry t .pre .1,
-      λ m h i.
-          pair-numberless (held (entry t .args .state .now)) m _ _ (found t ∙ known n .before .first .given .1) (n .next-number .ensures)
-          (c .if1 .taken),
+      λ m.
+          pair-numberless (held (entry t .args .state .now)) m _ _ _ _ (found t ∙ known n .before .first .given .1)
+          (n .next-number .ensures) (c .if1 .taken),
     )
 
 cast-t : tie.Need-cast-t
@@ -77,8 +77,8 @@ returns-3 c =
     let a = entry (tags n) .args in
     let d = held (a .state .now) in (
       c .leave .ensures .sound,
-      λ m h g.
-          pair-started d m _ _ h g (found (tags n) ∙ n .before .first .given .1)
+      λ m.
+          pair-started d m _ _ _ _ (found (tags n) ∙ n .before .first .given .1)
           (v .verdict-pair .ensures (used d (a .id) (a .e)) (used d (a .id) (a .f)) (v .before .in-use .ensures)) (p .pass .ensures .0)
           (i .before .next-number .ensures) (i .if1 .left)
           (held (p .pass .last .0)) (held (j .put-command .last .0)) (held (k .put-command2 .last .0)) _
