@@ -1,5 +1,5 @@
-// A controller in WORDS numbers that the caller lends: one field after another, each for every queue or every tag. This room alone
-// knows where they stand; the calls see what it hands out and stores.
+// A controller in WORDS numbers that the caller lends: one field after another, each for every queue or every tag. Where they stand
+// is used in this crate alone; the calls use its getters and setters.
 ghost use mathlib.Core.Path.{_≡_};
 ghost use Prim.Native.Nat.{_+_, _%_, _≤_, _<_};
 ghost use lib.ListN.{set};
@@ -19,15 +19,12 @@ use controller::SubmissionQueue;
 
 pub const WORDS: usize = 623;
 
-// Where the words of the queues, the commands, the mask of free tags, the arbiter and the next start number begin. Submission queues
-// begin at 0.
+// The first word of SQ 0 stands at 0, those of CQ 0 and of the command of tag 0 here; that of the next queue or tag one place on.
 const CQ: usize = 128;
 
 const COMMAND: usize = 224;
 
-const FREE: usize = 608;
-
-// How far from its first word a queue's field stands.
+// How far from its first word a queue's field stands: MARKED, CQ_OF and CLASS in an SQ alone, PHASE in a CQ alone.
 const BASE: usize = 0;
 
 const SIZE: usize = 16;
@@ -46,7 +43,7 @@ const CLASS: usize = 112;
 
 const PHASE: usize = 80;
 
-// And a command's.
+// The same of a command's field.
 const SQ: usize = 0;
 
 const CID: usize = 64;
@@ -59,7 +56,10 @@ const SECOND: usize = 256;
 
 const NUMBER: usize = 320;
 
-// The arbiter's.
+// Where the mask of free tags stands.
+const FREE: usize = 608;
+
+// Where the parts of the arbiter begin: a group is its holder and its remainder, a level a group and its credit.
 const WEIGHTED: usize = 609;
 
 const WORD: usize = 610;
@@ -72,7 +72,7 @@ const MEDIUM: usize = 616;
 
 const LOW: usize = 619;
 
-// The next start number's.
+// Where the next start number stands.
 const NEXT_NUMBER: usize = 622;
 
 // What stands for a remainder without limit.
@@ -405,8 +405,12 @@ pub struct Created {
 }
 
 impl Controller {
-    // The limits.
+    // The limits. There are as many submission queues as completion queues.
+    pub const QUEUES: usize = 16;
+
     pub const LAST_QUEUE: u64 = 15;
+
+    pub const TAGS: usize = 64;
 
     pub const LAST_TAG: u64 = 63;
 
@@ -416,15 +420,12 @@ impl Controller {
 
     pub const LAST_NUMBER: u64 = 18446744073709551614;
 
-    pub const LEAST_SIZE: u64 = ring::slots::LEAST_SIZE;
-
-    pub const MOST_SIZE: u64 = ring::slots::MOST_SIZE;
-
     pub const BASE_UNIT: u64 = 4096;
 
     pub const SUBMISSION_BYTES: u64 = 64;
 
     pub const COMPLETION_BYTES: u64 = 16;
+
     // The status codes.
     pub const INVALID_FIELD: u16 = 2;
 
