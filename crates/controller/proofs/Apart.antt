@@ -19,7 +19,7 @@ use Rattle.controller.specs.declared.Command.{Command}
 use Rattle.controller.specs.Controller.{Controller}
 use Rattle.controller.specs.State.{noSq, noCq, sqAt, cqAt, withSq, withCq, withCommands, withHead, withTail, freshController}
 use Rattle.controller.specs.State.{noRing, withNextNumber}
-use Rattle.controller.specs.Rings.{RingTest, existing, someSq, someCq, someRing, shareByte, sharing, shares, endsPast, outside}
+use Rattle.controller.specs.Rings.{RingTest, existing, eitherRing, someRing, shareByte, sharing, shares, endsPast, outside}
 use Rattle.controller.specs.Valid.{RingOk, Valid}
 use Rattle.controller.specs.Create.{newCq, newSq}
 use Rattle.controller.specs.Starting.{oneTaken, pairTaken}
@@ -60,10 +60,8 @@ module _ {c : Controller} (v : Valid c) where
   -- where no ring passes a test, each that exists fails it
   pub no-ring : (p : RingTest) → someRing c p ≡ false → (x : RingId) → ringAt c x .exists ≡ true → p (entryOf x) (ringAt c x) ≡ false
   unfolding someRing
-  no-ring p e (sq i) h =
-      rw h at (none-some 16 (λ j. existing p 64 (sqAt c j .ring)) (or-false (someSq (c .sqs) p) (someCq (c .cqs) p) e .0) i (sq-below v h))
-  no-ring p e (cq i) h =
-      rw h at (none-some 16 (λ j. existing p 16 (cqAt c j .ring)) (or-false (someSq (c .sqs) p) (someCq (c .cqs) p) e .1) i (cq-below v h))
+  no-ring p e (sq i) h = rw h at (or-false (existing p 64 (sqAt c i .ring)) _ (none-some 16 (eitherRing c p) e i (sq-below v h)) .0)
+  no-ring p e (cq i) h = rw h at (or-false (existing p 64 (sqAt c i .ring)) _ (none-some 16 (eitherRing c p) e i (cq-below v h)) .1)
 
   -- "a ring does not lie wholly in the memory given" is said of none
   pub ring-inside : {n : ℕ} → outside c n ≡ false → (x : RingId) → ringAt c x .exists ≡ true → ringAt c x .base + bytesOf c x ≤ n

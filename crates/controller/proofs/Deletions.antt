@@ -25,7 +25,7 @@ use Rattle.controller.specs.Answers.{done, Outcome, outcome, refusing}
 use Rattle.controller.specs.Calls.{Call, createCq, createSq, deleteCq, deleteSq, perform, Reachable, fresh, after}
 use Rattle.controller.proofs.Lists.{set-ind, set-all, getD-same}
 use Rattle.controller.proofs.Made.{Mixed, takes-one, takes-pair, finishes, Made, refuses, marks, creates-cq, creates-sq, moves-tail}
-use Rattle.controller.proofs.Made.{deletes-cq, deletes-sq, moves-head, commands, made, new-cq, new-sq, idle-sq, unnamed-cq}
+use Rattle.controller.proofs.Made.{deletes-cq, deletes-sq, moves-head, commands, made, new-cq, new-sq, deletable-sq, deletable-cq}
 use Rattle.controller.proofs.Refusals.{done-not}
 use Rattle.controller.proofs.Validity.{candidate-here, sq-below, cq-below, valid}
 use Rattle.controller.proofs.Apart.{RingId, sq, cq, ringAt, bytesOf, without, deletion, sq-gone, cq-gone, Here, stays-or-deleted, of-rings}
@@ -112,13 +112,14 @@ deleted c m (cq i) =
     settle-cases (λ (o : Outcome). o .answer ≡ done → o ≡ outcome done (without c (cq i)) m) _ _ _ (λ z e. refl)
     (λ n e. absurd (done-not (sym e)))
 
--- its queue existed, and was no Admin queue
+-- its queue existed
 was-there : (c : Controller) (m : Memory) (x : RingId) → perform c m (deletion x) .answer ≡ done → Here c x
 unfolding delete.deleteSq delete.deleteCq
 was-there c m (sq i) =
-    settle-cases (λ (o : Outcome). o .answer ≡ done → Here c (sq i)) _ _ _ (λ z e. idle-sq c i z .here) (λ n e. absurd (done-not (sym e)))
+    settle-cases (λ (o : Outcome). o .answer ≡ done → Here c (sq i)) _ _ _ (λ z e. deletable-sq c i z .here)
+    (λ n e. absurd (done-not (sym e)))
 was-there c m (cq i) =
-    settle-cases (λ (o : Outcome). o .answer ≡ done → Here c (cq i)) _ _ _ (λ z e. unnamed-cq c i z .here)
+    settle-cases (λ (o : Outcome). o .answer ≡ done → Here c (cq i)) _ _ _ (λ z e. deletable-cq c i z .here)
     (λ n e. absurd (done-not (sym e)))
 
 module _ {c : Controller} (r : Reachable c) where

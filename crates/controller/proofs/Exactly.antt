@@ -32,9 +32,9 @@ use Rattle.arbiter.specs.declared.Chosen.the-variants.{Queue, Nobody}
 use Rattle.controller.specs.declared.Ring.{Ring}
 use Rattle.controller.specs.Controller.{Controller}
 use Rattle.controller.specs.State.{sqAt, cqAt, commandAt, outstanding, freshController, newRules, newRefusal, newController}
-use Rattle.controller.specs.Rings.{RingTest, existing, someSq, someCq, someRing, shareByte, sharing, shares, endsPast, outside}
+use Rattle.controller.specs.Rings.{RingTest, existing, eitherRing, someRing, shareByte, sharing, shares, endsPast, outside}
 use Rattle.controller.specs.Valid.{Valid}
-use Rattle.controller.specs.Answers.{numberOf, Outcome, refusing}
+use Rattle.controller.specs.Answers.{numberOf, done, Outcome, outcome, refusing}
 use Rattle.controller.specs.Create as create
 use Rattle.controller.specs.Delete as delete
 use Rattle.controller.specs.Doorbell as doorbell
@@ -82,19 +82,12 @@ share-exactly a k b l =
 module _ {c : Controller} (v : Valid c) where
   found : (p : RingTest) → someRing c p ≡ true → SomeRing c (λ x. p (entryOf x) (ringAt c x) ≡ true)
   unfolding someRing
-  found p e = ⊎-elim of-sq of-cq (or-true (someSq (c .sqs) p) (someCq (c .cqs) p) e)
+  found p e =
+      let w = some-which 16 (eitherRing c p) e in
+      ⊎-elim (passing (rings.sq (w .0))) (passing (rings.cq (w .0))) (or-true (existing p 64 (sqAt c (w .0) .ring)) _ (w .2))
     where
-      of-sq : someSq (c .sqs) p ≡ true → SomeRing c (λ x. p (entryOf x) (ringAt c x) ≡ true)
-      of-sq f =
-          let w = some-which 16 (λ i. existing p 64 (sqAt c i .ring)) f in
-          let h = and-true (sqAt c (w .0) .ring .exists) _ (w .2) in
-          record { ring = rings.sq (w .0); here = h .0; is = h .1 }
-
-      of-cq : someCq (c .cqs) p ≡ true → SomeRing c (λ x. p (entryOf x) (ringAt c x) ≡ true)
-      of-cq f =
-          let w = some-which 16 (λ i. existing p 16 (cqAt c i .ring)) f in
-          let h = and-true (cqAt c (w .0) .ring .exists) _ (w .2) in
-          record { ring = rings.cq (w .0); here = h .0; is = h .1 }
+      passing : (x : RingId) → existing p (entryOf x) (ringAt c x) ≡ true → SomeRing c (λ y. p (entryOf y) (ringAt c y) ≡ true)
+      passing x f = let h = and-true (ringAt c x .exists) _ f in record { ring = x; here = h .0; is = h .1 }
 
   says-some : (p : RingTest) (P : RingId → Type 0) → ((x : RingId) → Says (p (entryOf x) (ringAt c x)) (P x))
       → Says (someRing c p) (SomeRing c P)
@@ -207,30 +200,34 @@ module _ {c : Controller} (r : Reachable c) (m : Memory) where
 
 -- ---- deletions
 
+-- a queue that exists, and is in use, which has the number n
+abbrev pub deleteReasons : ℕ → Type 0 → Type 0 → ℕ → Reasons
+deleteReasons id Exists InUse n = (15 < id, 1) ∷ (id ≡ 0, 35) ∷ ((Exists → ⊥), 9) ∷ (InUse, n) ∷ []
+
 abbrev pub deleteSqReasons : Controller → ℕ → Reasons
-deleteSqReasons c id = (15 < id, 1) ∷ (id ≡ 0, 35) ∷ ((sqAt c id .ring .exists ≡ true → ⊥), 9) ∷ (Busy c id, 33) ∷ []
+deleteSqReasons c id = deleteReasons id (sqAt c id .ring .exists ≡ true) (Busy c id) 33
 
 abbrev pub deleteCqReasons : Controller → ℕ → Reasons
-deleteCqReasons c id = (15 < id, 1) ∷ (id ≡ 0, 35) ∷ ((cqAt c id .ring .exists ≡ true → ⊥), 9) ∷ (Named c id, 34) ∷ []
+deleteCqReasons c id = deleteReasons id (cqAt c id .ring .exists ≡ true) (Named c id) 34
 
 module _ (c : Controller) (m : Memory) (id : ℕ) where
-  pub delete-sq : Decided (deleteSqReasons c id) (number (perform c m (deleteSq id)))
-  unfolding delete.deleteSq delete.deleteSqRefusal
-  delete-sq =
-      settled c m _ (delete.deleteSqRules c id) (deleteSqReasons c id) [] tt (
+  -- of both tables, where d is left by the deletion
+  deletion : {b u : Bool} {P Q : Type 0} → Says b P → Says u Q → (n : ℕ) → T (numbered (delete.deleteRules id b u n)) → (d : Controller)
+      → Decided (deleteReasons id P Q n) (number (settle (firstMatch (delete.deleteRules id b u n)) (refusing c m) (outcome done d m)))
+  deletion {b} {u} {P} {Q} s t n h d =
+      settled c m _ (delete.deleteRules id b u n) (deleteReasons id P Q n) [] h (
         refl,
         says-lt 15 id,
-        λ a. (refl, says-eq id 0, λ b. (refl, says-not (says-is (sqAt c id .ring .exists)), λ d. (refl, says-busy c id, λ e. tt))),
+        λ x. (refl, says-eq id 0, λ y. (refl, says-not s, λ z. (refl, t, λ w. tt))),
       ) (λ o. refl)
+
+  pub delete-sq : Decided (deleteSqReasons c id) (number (perform c m (deleteSq id)))
+  unfolding delete.deleteSq delete.deleteSqRefusal
+  delete-sq = deletion (says-is (sqAt c id .ring .exists)) (says-busy c id) 33 tt _
 
   pub delete-cq : Decided (deleteCqReasons c id) (number (perform c m (deleteCq id)))
   unfolding delete.deleteCq delete.deleteCqRefusal
-  delete-cq =
-      settled c m _ (delete.deleteCqRules c id) (deleteCqReasons c id) [] tt (
-        refl,
-        says-lt 15 id,
-        λ a. (refl, says-eq id 0, λ b. (refl, says-not (says-is (cqAt c id .ring .exists)), λ d. (refl, says-named c id, λ e. tt))),
-      ) (λ o. refl)
+  delete-cq = deletion (says-is (cqAt c id .ring .exists)) (says-named c id) 34 tt _
 
 -- ---- doorbell writes
 

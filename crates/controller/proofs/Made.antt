@@ -1,16 +1,16 @@
 -- What a call comes to, by cases: a refusal, or what the call does, with all that is then known. Assumes nothing.
 use Prim.Native.Nat.{ℕ, _+_, _*_, _%_, _^_, _≤_, _<_}
-use mathlib.Core.Bool.{true, false, not}
+use mathlib.Core.Bool.{Bool, true, false, not}
 use mathlib.Core.List.{List}
 use mathlib.Core.Logic.{_⊎_}
 use mathlib.Core.Path.{_≡_, refl, subst}
 use native.Mathlib.Omega.{arith}
-use lib.Dec.{eqb}
+use lib.Dec.{T, eqb}
 use lib.ListN.{length}
 use borrow.Author.Tests.{ltb-false, eqb-true, eqb-false}
 use Rattle.rules.specs.Rules.{pick, firstMatch}
 use Rattle.rules.proofs.Tests.{or-false, not-no, range}
-use Rattle.rules.proofs.Tables.{Unapplied, passed}
+use Rattle.rules.proofs.Tables.{Unapplied, numbered, passed}
 use Rattle.rules.proofs.Exactly.{says-eq, says-not, says-pick}
 use Rattle.bits.specs.Tags.{takenOne, takenTwo}
 use Rattle.bits.specs.declared.TakenOne.{TakenOne}
@@ -32,7 +32,7 @@ use Rattle.controller.specs.Answers.{StartAnswer, Answer, refused, done,
 use Rattle.controller.specs.Create as create
 use Rattle.controller.specs.Create.{ringRules, createCqRules, createSqRules, createCqRefusal, createSqRefusal, newCq, newSq}
 use Rattle.controller.specs.Delete as delete
-use Rattle.controller.specs.Delete.{busy, named, deleteSqRules, deleteCqRules, deleteSqRefusal, deleteCqRefusal}
+use Rattle.controller.specs.Delete.{busy, named, deleteRules, deleteSqRefusal, deleteCqRefusal}
 use Rattle.controller.specs.Doorbell as doorbell
 use Rattle.controller.specs.Doorbell.{validTail, validHead, tailRules, tailRefusal, tailMoved, mark, headRules, headRefusal}
 use Rattle.controller.specs.Doorbell.{headMoved}
@@ -73,18 +73,18 @@ pub record NewSq (c : Controller) (n id size base cq class : ℕ) : Type 0 where
   pub unmixed : Mixed id cq → ⊥
   pub ring : NewRing c n 64 size base
 
--- a queue that is deleted: it exists and is not an Admin one
-pub record IdleSq (c : Controller) (id : ℕ) : Type 0 where
+-- a queue that is deleted: it exists, is not an Admin one and is not in use
+pub record Deletable (id : ℕ) (exists inUse : Bool) : Type 0 where
   pub id-low : id < 16
   pub not-admin : id ≡ 0 → ⊥
-  pub here : sqAt c id .ring .exists ≡ true
-  pub idle : busy c id ≡ false
+  pub here : exists ≡ true
+  pub unused : inUse ≡ false
 
-pub record UnnamedCq (c : Controller) (id : ℕ) : Type 0 where
-  pub id-low : id < 16
-  pub not-admin : id ≡ 0 → ⊥
-  pub here : cqAt c id .ring .exists ≡ true
-  pub unnamed : named c id ≡ false
+abbrev pub DeletableSq : Controller → ℕ → Type 0
+DeletableSq c id = Deletable id (sqAt c id .ring .exists) (busy c id)
+
+abbrev pub DeletableCq : Controller → ℕ → Type 0
+DeletableCq c id = Deletable id (cqAt c id .ring .exists) (named c id)
 
 -- the queue of a doorbell write
 pub record TakesTail (c : Controller) (id : ℕ) : Type 0 where
@@ -145,8 +145,8 @@ pub data Made (c : Controller) (m : Memory) : Call → Outcome → Type 0 where
       → Made c m (createCq id size base) (outcome done (withCq c id (newCq size base)) m)
   creates-sq : (id size base cq class : ℕ) → NewSq c (length m) id size base cq class
       → Made c m (createSq id size base cq class) (outcome done (withSq c id (newSq size base cq class)) m)
-  deletes-cq : (id : ℕ) → UnnamedCq c id → Made c m (deleteCq id) (outcome done (withCq c id noCq) m)
-  deletes-sq : (id : ℕ) → IdleSq c id → Made c m (deleteSq id) (outcome done (withSq c id noSq) m)
+  deletes-cq : (id : ℕ) → DeletableCq c id → Made c m (deleteCq id) (outcome done (withCq c id noCq) m)
+  deletes-sq : (id : ℕ) → DeletableSq c id → Made c m (deleteSq id) (outcome done (withSq c id noSq) m)
   moves-tail : (id v : ℕ) → TakesTail c id → validTail (sqAt c id .ring) v ≡ true
       → Made c m (tailWrite id v) (outcome done (withSq c id (tailMoved (sqAt c id) v)) m)
   moves-head : (id v : ℕ) → TakesHead c id v
@@ -184,6 +184,17 @@ new-ring c n entry size base p =
       alone = p .1 .1 .1 .0;
     }
 
+deletable : (id : ℕ) (exists inUse : Bool) (n : ℕ) → T (numbered (deleteRules id exists inUse n))
+    → firstMatch (deleteRules id exists inUse n) ≡ 0 → Deletable id exists inUse
+deletable id exists inUse n h z =
+    let p = passed (deleteRules id exists inUse n) h z in
+    record {
+      id-low = omega (arith, ltb-false 15 id (p .0));
+      not-admin = eqb-false id 0 (p .1 .0);
+      here = not-no _ (p .1 .1 .0);
+      unused = p .1 .1 .1 .0;
+    }
+
 -- where a call's refusal is 0
 module _ (c : Controller) where
   pub new-cq : (n id size base : ℕ) → createCqRefusal c n id size base ≡ 0 → NewCq c n id size base
@@ -207,27 +218,13 @@ module _ (c : Controller) where
         ring = new-ring c n 64 size base (p .1 .1 .1 .1);
       }
 
-  pub idle-sq : (id : ℕ) → deleteSqRefusal c id ≡ 0 → IdleSq c id
+  pub deletable-sq : (id : ℕ) → deleteSqRefusal c id ≡ 0 → DeletableSq c id
   unfolding deleteSqRefusal
-  idle-sq id z =
-      let p = passed (deleteSqRules c id) tt z in
-      record {
-        id-low = omega (arith, ltb-false 15 id (p .0));
-        not-admin = eqb-false id 0 (p .1 .0);
-        here = not-no _ (p .1 .1 .0);
-        idle = p .1 .1 .1 .0;
-      }
+  deletable-sq id = deletable id _ _ 33 tt
 
-  pub unnamed-cq : (id : ℕ) → deleteCqRefusal c id ≡ 0 → UnnamedCq c id
+  pub deletable-cq : (id : ℕ) → deleteCqRefusal c id ≡ 0 → DeletableCq c id
   unfolding deleteCqRefusal
-  unnamed-cq id z =
-      let p = passed (deleteCqRules c id) tt z in
-      record {
-        id-low = omega (arith, ltb-false 15 id (p .0));
-        not-admin = eqb-false id 0 (p .1 .0);
-        here = not-no _ (p .1 .1 .0);
-        unnamed = p .1 .1 .1 .0;
-      }
+  deletable-cq id = deletable id _ _ 34 tt
 
   pub takes-tail : (id : ℕ) → tailRefusal c id ≡ 0 → TakesTail c id
   unfolding tailRefusal
@@ -258,11 +255,11 @@ module _ (c : Controller) (m : Memory) where
   cq-deleted : (id : ℕ) → Made c m (deleteCq id) (perform c m (deleteCq id))
   unfolding delete.deleteCq
   cq-deleted id =
-      settle-cases (Made c m (deleteCq id)) _ _ _ (λ z. deletes-cq id (unnamed-cq c id z)) (λ n. refuses (deleteCq id) _)
+      settle-cases (Made c m (deleteCq id)) _ _ _ (λ z. deletes-cq id (deletable-cq c id z)) (λ n. refuses (deleteCq id) _)
 
   sq-deleted : (id : ℕ) → Made c m (deleteSq id) (perform c m (deleteSq id))
   unfolding delete.deleteSq
-  sq-deleted id = settle-cases (Made c m (deleteSq id)) _ _ _ (λ z. deletes-sq id (idle-sq c id z)) (λ n. refuses (deleteSq id) _)
+  sq-deleted id = settle-cases (Made c m (deleteSq id)) _ _ _ (λ z. deletes-sq id (deletable-sq c id z)) (λ n. refuses (deleteSq id) _)
 
   tail-made : (id v : ℕ) → Made c m (tailWrite id v) (perform c m (tailWrite id v))
   unfolding doorbell.tailWrite

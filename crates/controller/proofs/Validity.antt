@@ -304,8 +304,8 @@ valid-kept v (creates-cq id size base r) = with-cq v id _ (r .id-low) (record { 
 valid-kept v (creates-sq id size base cq class r) =
     with-sq v id _ (r .id-low)
     (record { here = refl; ring = new-ok (r .ring); cq-here = r .cq-here; cq-low = cq-below v (r .cq-here); class-low = r .class-low })
-valid-kept v (deletes-cq id r) = without-cq v id (r .id-low) (r .unnamed)
-valid-kept v (deletes-sq id r) = without-sq v id (r .id-low) (r .idle)
+valid-kept v (deletes-cq id r) = without-cq v id (r .id-low) (r .unused)
+valid-kept v (deletes-sq id r) = without-sq v id (r .id-low) (r .unused)
 valid-kept {c} v (moves-tail id x r e) =
     let q = sqAt c id in
     with-sq v id _ (r .id-low)

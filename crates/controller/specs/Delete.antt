@@ -26,12 +26,15 @@ naming c id i = sqAt c i .ring .exists && eqb (sqAt c i .cq) id
 unfoldable pub named : Controller → ℕ → Bool
 named c id = someBelow 16 (naming c id)
 
--- "Order: 1, 35, 9, 33 or 34"
+-- "Order: 1, 35, 9, 33 or 34": of a queue, whether it exists, and whether it is in use, which has the number n
+abbrev pub deleteRules : ℕ → Bool → Bool → ℕ → Table
+deleteRules id exists inUse n = (ltb 15 id, 1) ∷ (eqb id 0, 35) ∷ (not exists, 9) ∷ (inUse, n) ∷ []
+
 abbrev pub deleteSqRules : Controller → ℕ → Table
-deleteSqRules c id = (ltb 15 id, 1) ∷ (eqb id 0, 35) ∷ (not (sqAt c id .ring .exists), 9) ∷ (busy c id, 33) ∷ []
+deleteSqRules c id = deleteRules id (sqAt c id .ring .exists) (busy c id) 33
 
 abbrev pub deleteCqRules : Controller → ℕ → Table
-deleteCqRules c id = (ltb 15 id, 1) ∷ (eqb id 0, 35) ∷ (not (cqAt c id .ring .exists), 9) ∷ (named c id, 34) ∷ []
+deleteCqRules c id = deleteRules id (cqAt c id .ring .exists) (named c id) 34
 
 unfoldable pub deleteSqRefusal : Controller → ℕ → ℕ
 deleteSqRefusal c id = firstMatch (deleteSqRules c id)

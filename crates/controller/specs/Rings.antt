@@ -1,15 +1,11 @@
 -- Where rings lie: in the memory given, and apart from each other.
 use Prim.Native.Nat.{ℕ, _+_, _*_, min, max}
 use mathlib.Core.Bool.{Bool, _&&_, _||_}
-use mathlib.Core.List.{List}
 use lib.Dec.{ltb}
-use lib.ListN.{getD}
 use Rattle.bits.specs.Bits.{someBelow}
 use Rattle.controller.specs.declared.Ring.{Ring}
-use Rattle.controller.specs.declared.SubmissionQueue.{SubmissionQueue}
-use Rattle.controller.specs.declared.CompletionQueue.{CompletionQueue}
 use Rattle.controller.specs.Controller.{Controller}
-use Rattle.controller.specs.State.{noSq, noCq}
+use Rattle.controller.specs.State.{sqAt, cqAt}
 
 -- a test of a ring, which is given the bytes of its entries too
 abbrev pub RingTest : Type 0
@@ -19,15 +15,13 @@ RingTest = ℕ → Ring → Bool
 abbrev pub existing : RingTest → RingTest
 existing p entry r = r .exists && p entry r
 
--- the ring of some submission queue, of some completion queue, of some queue exists and passes the test
-abbrev pub someSq : List SubmissionQueue → RingTest → Bool
-someSq qs p = someBelow 16 (λ i. existing p 64 (getD qs i noSq .ring))
+-- the ring of SQ i or that of CQ i exists and passes the test
+abbrev pub eitherRing : Controller → RingTest → ℕ → Bool
+eitherRing c p i = existing p 64 (sqAt c i .ring) || existing p 16 (cqAt c i .ring)
 
-abbrev pub someCq : List CompletionQueue → RingTest → Bool
-someCq qs p = someBelow 16 (λ i. existing p 16 (getD qs i noCq .ring))
-
+-- the ring of some queue does
 unfoldable pub someRing : Controller → RingTest → Bool
-someRing c p = someSq (c .sqs) p || someCq (c .cqs) p
+someRing c p = someBelow 16 (eitherRing c p)
 
 -- the k bytes at a and the l bytes at b have a byte in common
 unfoldable pub shareByte : ℕ → ℕ → ℕ → ℕ → Bool

@@ -1,22 +1,16 @@
--- Laws of the creation of queues. Assumes nothing.
+-- Laws of the tests of a new ring. Assumes nothing.
 use Prim.Native.Nat.{ℕ, _+_, _*_, _-_, _%_, _≤_, _<_, min, max}
 use mathlib.Core.Bool.{Bool, true, false}
-use mathlib.Core.Path.{_≡_, sym, ap}
+use mathlib.Core.Path.{_≡_, sym}
 use native.Mathlib.Omega.{arith}
 use lib.Dec.{ltb}
-use lib.ListN.{length}
 use borrow.Author.Tests.{le-ltb, eq-eqb}
 use Rattle.rules.specs.Rules.{firstMatch}
 use Rattle.rules.proofs.Exactly.{says-lt, says-as, says-same}
-use Rattle.le.specs.Memory.{Memory}
 use Rattle.ring.specs.Slots.{wrongSize}
 use Rattle.controller.specs.Controller.{Controller}
-use Rattle.controller.specs.Create.{ringRules, createCqRefusal, createSqRefusal, newCq, newSq, createCq, createSq}
+use Rattle.controller.specs.Create.{ringRules}
 use Rattle.controller.specs.Rings.{shareByte, shares}
-use Rattle.controller.specs.State.{withSq, withCq}
-use Rattle.controller.specs.Answers.{outcome, done}
-use Rattle.controller.specs.Calls.{ofNumber}
-use Rattle.controller.proofs.Settled.{number-refused, accepted}
 
 -- the four cases in which the code tests whether two ranges have a byte in common
 module _ (a k b l : ℕ) where
@@ -50,24 +44,3 @@ module _ (c : Controller) (n entry size base : ℕ) {wrong : Bool} (w : wrong �
 
     pub ring-0 : meets ≡ false → 0 ≡ firstMatch (ringRules c n entry size base)
     ring-0 g = rw (← w, x, eq-eqb (base % 4096) 0 e, ← o, f, ← s, g)
-
--- what the creations come to
-module _ (c : Controller) (m : Memory) (id size base : ℕ) {k : ℕ} (e : k ≡ createCqRefusal c (length m) id size base) where
-  pub cq-refused : (k ≡ 0 → ⊥) → outcome (ofNumber k) c m ≡ createCq c m id size base
-  unfolding createCq
-  cq-refused h = number-refused c m _ e h
-
-  pub cq-created : k ≡ 0 → {d : Controller} → d ≡ withCq c id (newCq size base) → outcome (ofNumber 0) d m ≡ createCq c m id size base
-  unfolding createCq
-  cq-created z f = accepted c m _ e z (ap (λ d. outcome done d m) f)
-
-module _ (c : Controller) (m : Memory) (id size base cq class : ℕ) {k : ℕ}
-    (e : k ≡ createSqRefusal c (length m) id size base cq class) where
-  pub sq-refused : (k ≡ 0 → ⊥) → outcome (ofNumber k) c m ≡ createSq c m id size base cq class
-  unfolding createSq
-  sq-refused h = number-refused c m _ e h
-
-  pub sq-created : k ≡ 0 → {d : Controller} → d ≡ withSq c id (newSq size base cq class)
-      → outcome (ofNumber 0) d m ≡ createSq c m id size base cq class
-  unfolding createSq
-  sq-created z f = accepted c m _ e z (ap (λ d. outcome done d m) f)

@@ -1,3 +1,4 @@
+pub mod Scans
 pub mod Bounds
+pub mod Changes
 pub mod Creates
-pub mod Deletes

@@ -5,7 +5,7 @@ ghost use Rattle.rules.specs.Rules.{firstMatch};
 ghost use Rattle.controller.specs.Answers.{outcome};
 ghost use Rattle.controller.specs.Calls.{perform, ofNumber, createCq, createSq};
 ghost use Rattle.controller.specs.Create.{ringRules, wrongCq, createCqRefusal, createSqRefusal, newRing};
-ghost use Rattle.controller.specs.Rings.{existing, someSq, someCq, shareByte, sharing, shares};
+ghost use Rattle.controller.specs.Rings.{existing, shareByte, sharing, shares};
 ghost use Rattle.controller.specs.State.{sqAt, cqAt};
 ghost use Rattle.store.specs.Held.{held, Sound, Reached};
 use crate::rings::ends_past;
@@ -42,42 +42,23 @@ fn ring_shares(r: Ring, entry: u64, a: u64, k: u64) -> bool
     share_byte(a, k, r.base, entry * (r.size as u64))
 }
 
-fn sqs_share(state: &[u64; WORDS], a: u64, k: u64) -> bool
-    ensures { λ r. ⌜ r ≡ someSq (held (now (state .entry)) .sqs) (sharing a k) ⌝ }
-{
-    let mut i: usize = 0;
-    while i < 16 {
-        let q = sq_at(state, i);
-        if ring_shares(q.ring, 64, a, k) {
-            return true;
-        }
-        i += 1;
-    }
-    false
-}
-
-fn cqs_share(state: &[u64; WORDS], a: u64, k: u64) -> bool
-    ensures { λ r. ⌜ r ≡ someCq (held (now (state .entry)) .cqs) (sharing a k) ⌝ }
-{
-    let mut i: usize = 0;
-    while i < 16 {
-        let q = cq_at(state, i);
-        if ring_shares(q.ring, 16, a, k) {
-            return true;
-        }
-        i += 1;
-    }
-    false
-}
-
 // Whether some queue's ring has a byte in common with the k bytes at a.
 fn rings_share(state: &[u64; WORDS], a: u64, k: u64) -> bool
     ensures { λ r. ⌜ r ≡ shares (held (now (state .entry))) a k ⌝ }
 {
-    if sqs_share(state, a, k) {
-        return true;
+    let mut i: usize = 0;
+    while i < Controller::QUEUES {
+        let sq = sq_at(state, i);
+        if ring_shares(sq.ring, Controller::SUBMISSION_BYTES, a, k) {
+            return true;
+        }
+        let cq = cq_at(state, i);
+        if ring_shares(cq.ring, Controller::COMPLETION_BYTES, a, k) {
+            return true;
+        }
+        i += 1;
     }
-    cqs_share(state, a, k)
+    false
 }
 
 // Why a new ring of `size` entries at `base` is refused in `n` bytes of memory: 0, or the refusal number.

@@ -1,10 +1,11 @@
 // Deleting queues. A deleted queue is as one that never was.
 ghost use mathlib.Core.Path.{_≡_};
 ghost use Prim.Native.Nat.{_<_};
+ghost use Rattle.rules.specs.Rules.{firstMatch};
 ghost use Rattle.le.specs.Memory.{Memory};
 ghost use Rattle.controller.specs.Answers.{outcome};
 ghost use Rattle.controller.specs.Calls.{perform, ofNumber, deleteCq, deleteSq};
-ghost use Rattle.controller.specs.Delete.{takenFrom, busy, naming, named, deleteSqRefusal, deleteCqRefusal};
+ghost use Rattle.controller.specs.Delete.{takenFrom, busy, naming, named, deleteRules};
 ghost use Rattle.controller.specs.State.{noRing};
 ghost use Rattle.store.specs.Held.{held, Sound, Reached};
 use crate::create::cq_exists;
@@ -38,7 +39,7 @@ fn is_busy(state: &[u64; WORDS], id: u64) -> bool
     ensures { λ r. ⌜ r ≡ busy (held (now (state .entry))) id ⌝ }
 {
     let mut t: usize = 0;
-    while t < 64 {
+    while t < Controller::TAGS {
         if taken_from(state, id, t) {
             return true;
         }
@@ -64,7 +65,7 @@ fn is_named(state: &[u64; WORDS], id: u64) -> bool
     ensures { λ r. ⌜ r ≡ named (held (now (state .entry))) id ⌝ }
 {
     let mut i: usize = 0;
-    while i < 16 {
+    while i < Controller::QUEUES {
         if is_naming(state, id, i) {
             return true;
         }
@@ -85,8 +86,9 @@ fn no_ring() -> Ring
     }
 }
 
-fn delete_sq_refusal(state: &[u64; WORDS], id: u64) -> u64
-    ensures { λ r. ⌜ r ≡ deleteSqRefusal (held (now (state .entry))) id ⌝ }
+// Why queue `id` is not deleted: 0, or the refusal number, which is `n` where it is in use.
+fn delete_refusal(id: u64, exists: bool, in_use: bool, n: u64) -> u64
+    ensures { λ r. ⌜ r ≡ firstMatch (deleteRules id exists «in_use» n) ⌝ }
 {
     if Controller::LAST_QUEUE < id {
         return 1;
@@ -94,11 +96,11 @@ fn delete_sq_refusal(state: &[u64; WORDS], id: u64) -> u64
     if id == 0 {
         return 35;
     }
-    if !sq_exists(state, id) {
+    if !exists {
         return 9;
     }
-    if is_busy(state, id) {
-        return 33;
+    if in_use {
+        return n;
     }
     0
 }
@@ -109,7 +111,7 @@ pub fn delete_sq(state: &mut [u64; WORDS], id: u64) -> u64
     ensures { λ r. ⌜ Sound (now (state .exit)) × ((m : Memory) → outcome (ofNumber r) (held (now (state .exit))) m
         ≡ perform (held (now (state .entry))) m (deleteSq id)) ⌝ }
 {
-    let refusal = delete_sq_refusal(state, id);
+    let refusal = delete_refusal(id, sq_exists(state, id), is_busy(state, id), 33);
     if refusal != 0 {
         return refusal;
     }
@@ -127,31 +129,13 @@ pub fn delete_sq(state: &mut [u64; WORDS], id: u64) -> u64
     0
 }
 
-fn delete_cq_refusal(state: &[u64; WORDS], id: u64) -> u64
-    ensures { λ r. ⌜ r ≡ deleteCqRefusal (held (now (state .entry))) id ⌝ }
-{
-    if Controller::LAST_QUEUE < id {
-        return 1;
-    }
-    if id == 0 {
-        return 35;
-    }
-    if !cq_exists(state, id) {
-        return 9;
-    }
-    if is_named(state, id) {
-        return 34;
-    }
-    0
-}
-
 // Deletes a completion queue: 0, or the refusal number.
 pub fn delete_cq(state: &mut [u64; WORDS], id: u64) -> u64
     requires { ⌜ Reached (now state) ⌝ }
     ensures { λ r. ⌜ Sound (now (state .exit)) × ((m : Memory) → outcome (ofNumber r) (held (now (state .exit))) m
         ≡ perform (held (now (state .entry))) m (deleteCq id)) ⌝ }
 {
-    let refusal = delete_cq_refusal(state, id);
+    let refusal = delete_refusal(id, cq_exists(state, id), is_named(state, id), 34);
     if refusal != 0 {
         return refusal;
     }

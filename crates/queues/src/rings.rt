@@ -2,9 +2,10 @@
 ghost use mathlib.Core.Path.{_≡_};
 ghost use Prim.Native.Nat.{_+_, _≤_};
 ghost use lib.Dec.{ltb};
-ghost use Rattle.controller.specs.Rings.{existing, someSq, someCq, endsPast, outside};
+ghost use Rattle.controller.specs.Rings.{existing, endsPast, outside};
 ghost use Rattle.store.specs.Held.{held};
 use controller::Ring;
+use store::Controller;
 use store::WORDS;
 use store::cq_at;
 use store::sq_at;
@@ -30,40 +31,21 @@ fn ring_outside(r: Ring, entry: u64, n: u64) -> bool
     ends_past(n, r.base, entry * (r.size as u64))
 }
 
-fn sqs_outside(state: &[u64; WORDS], n: u64) -> bool
-    ensures { λ r. ⌜ r ≡ someSq (held (now (state .entry)) .sqs) (endsPast n) ⌝ }
-{
-    let mut i: usize = 0;
-    while i < 16 {
-        let q = sq_at(state, i);
-        if ring_outside(q.ring, 64, n) {
-            return true;
-        }
-        i += 1;
-    }
-    false
-}
-
-fn cqs_outside(state: &[u64; WORDS], n: u64) -> bool
-    ensures { λ r. ⌜ r ≡ someCq (held (now (state .entry)) .cqs) (endsPast n) ⌝ }
-{
-    let mut i: usize = 0;
-    while i < 16 {
-        let q = cq_at(state, i);
-        if ring_outside(q.ring, 16, n) {
-            return true;
-        }
-        i += 1;
-    }
-    false
-}
-
 // Whether some queue's ring does not lie wholly in `n` bytes.
 pub fn rings_outside(state: &[u64; WORDS], n: u64) -> bool
     ensures { λ r. ⌜ r ≡ outside (held (now (state .entry))) n ⌝ }
 {
-    if sqs_outside(state, n) {
-        return true;
+    let mut i: usize = 0;
+    while i < Controller::QUEUES {
+        let sq = sq_at(state, i);
+        if ring_outside(sq.ring, Controller::SUBMISSION_BYTES, n) {
+            return true;
+        }
+        let cq = cq_at(state, i);
+        if ring_outside(cq.ring, Controller::COMPLETION_BYTES, n) {
+            return true;
+        }
+        i += 1;
     }
-    cqs_outside(state, n)
+    false
 }

@@ -1,39 +1,31 @@
 -- `is_named` meets its contract. The loop's invariant: no queue passed names the other; the measure is how many are left. Assumes nothing.
-use Prim.Native.Nat.{ℕ, _≤_, _<_, _-_}
-use mathlib.Core.Bool.{false}
-use mathlib.Core.Path.{_≡_, sym, _∙_}
-use native.Mathlib.Omega.{arith}
-use borrow.Author.Count.{below-more, below-none}
+use Prim.Native.Nat.{_-_}
+use mathlib.Core.Path.{sym, _∙_}
 use borrow.Author.Needs.{needs}
-use Rattle.bits.proofs.Some.{some-found, some-none}
 use Rattle.controller.specs.Delete.{naming, named}
 use Rattle.store.specs.Held.{held}
+use Rattle.queues.proofs.Scans.{Unfound, begins, goes-on, found, ends}
 use Rattle.queues.proofs.delete.is_named.Statement.{statement}
 use Rattle.queues.proofs.delete.is_named.Tie as tie
 
 abbrev Inv-loop : tie.InvT-loop
-Inv-loop state id i₀ i = (i ≤ 16) × ((j : ℕ) → j < i → naming (held state) id j ≡ false)
+Inv-loop state id i₀ i = Unfound 16 (naming (held state) id) i
 
 abbrev μ-loop : tie.MeasureT-loop
 μ-loop state id i₀ i = 16 - i
 
-loop-holds : tie.Need-loop-holds Inv-loop μ-loop
-loop-holds c = (search needs, below-none _)
-
 returns : tie.Need-returns Inv-loop μ-loop
 unfolding named
-returns c =
-    let x = c .before in
-    sym (some-found 16 _ (x .before .before .loop .i) (omega arith) (sym (x .is-naming .ensures) ∙ c .if1 .taken))
+returns c = let x = c .before in found 16 _ _ (x .before .loop-test .taken) (sym (x .is-naming .ensures) ∙ c .if1 .taken)
 
 loop-again : tie.Need-loop-again Inv-loop μ-loop
 loop-again c =
     let x = c .before in
-    (omega arith, below-more _ _ (x .before .before .loop .inv .1) (sym (x .is-naming .ensures) ∙ c .if1 .left))
+    goes-on 16 _ (x .before .before .loop .inv) (x .before .loop-test .taken) (sym (x .is-naming .ensures) ∙ c .if1 .left)
 
 returns-2 : tie.Need-returns-2 Inv-loop μ-loop
 unfolding named
-returns-2 c = sym (some-none 16 _ (λ k h. c .before .loop .inv .1 k (omega arith)))
+returns-2 c = ends 16 _ (c .before .loop .inv) (c .loop-test .left)
 
 pub is-named-spec : {M : Type 1} → statement M
 is-named-spec =
@@ -41,7 +33,7 @@ is-named-spec =
     (tie.spec
     Inv-loop
     μ-loop
-    loop-holds
+    (λ c. begins 16 _)
     (λ c κs. search needs)
     returns
     (λ c. search needs)
