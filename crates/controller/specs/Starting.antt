@@ -29,7 +29,7 @@ use Rattle.controller.specs.Rings.{outside}
 use Rattle.controller.specs.Answers.{Outcome, outcome, started, refusing}
 use Rattle.controller.specs.Verdict.{inUse, verdictOne, verdictPair}
 
--- "A candidate is an unmarked SQ that is not empty."
+-- document 01's term: "A candidate is an unmarked SQ that is not empty."
 unfoldable pub candidateAt : Controller → ℕ → Bool
 candidateAt c i =
     let q = sqAt c i in q .ring .exists && (not (q .marked) && not (eqb (q .ring .head) (q .ring .tail)))
