@@ -96,7 +96,7 @@ fn new_ring(size: u64, base: u64) -> Ring
 }
 
 // Whether there is a submission queue of the id, which may be any number.
-pub fn sq_exists(state: &[u64; WORDS], id: u64) -> bool
+pub(crate) fn sq_exists(state: &[u64; WORDS], id: u64) -> bool
     ensures { λ r. ⌜ r ≡ sqAt (held (now (state .entry))) id .ring .exists ⌝ }
 {
     if Controller::LAST_QUEUE < id {
@@ -106,7 +106,7 @@ pub fn sq_exists(state: &[u64; WORDS], id: u64) -> bool
     q.ring.exists
 }
 
-pub fn cq_exists(state: &[u64; WORDS], id: u64) -> bool
+pub(crate) fn cq_exists(state: &[u64; WORDS], id: u64) -> bool
     ensures { λ r. ⌜ r ≡ cqAt (held (now (state .entry))) id .ring .exists ⌝ }
 {
     if Controller::LAST_QUEUE < id {

@@ -11,7 +11,7 @@ use store::cq_at;
 use store::sq_at;
 
 // Whether `bytes` bytes at `base` end past `n` bytes. No sum is made, so none wraps.
-pub fn ends_past(n: u64, base: u64, bytes: u64) -> bool
+pub(crate) fn ends_past(n: u64, base: u64, bytes: u64) -> bool
     ensures { λ r. ⌜ r ≡ ltb n (base + bytes) ⌝ }
 {
     if n < bytes {

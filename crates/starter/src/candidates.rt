@@ -41,7 +41,7 @@ fn masks_of(state: &[u64; WORDS]) -> u64
 }
 
 // The candidates among all queues, and among those of each class.
-pub fn candidates_of(state: &[u64; WORDS]) -> Candidates
+pub(crate) fn candidates_of(state: &[u64; WORDS]) -> Candidates
     requires { ⌜ Reached (now state) ⌝ }
     ensures { λ r. ⌜ r ≡ candidates (held (now (state .entry))) ⌝ }
 {

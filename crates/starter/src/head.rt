@@ -54,14 +54,14 @@ fn entry_at(memory: &[u8], r: Ring, p: u64) -> Submission
 }
 
 // The entry at the head, and the one after it.
-pub fn first_entry(memory: &[u8], r: Ring) -> Submission
+pub(crate) fn first_entry(memory: &[u8], r: Ring) -> Submission
     requires { ⌜ Inside (length (now memory)) r ⌝ }
     ensures { λ x. ⌜ x ≡ entryAt (now (memory .entry)) r (r .head) ⌝ }
 {
     entry_at(memory, r, r.head as u64)
 }
 
-pub fn second_entry(memory: &[u8], r: Ring) -> Submission
+pub(crate) fn second_entry(memory: &[u8], r: Ring) -> Submission
     requires { ⌜ Inside (length (now memory)) r ⌝ }
     ensures { λ x. ⌜ x ≡ entryAt (now (memory .entry)) r (next (r .size) (r .head)) ⌝ }
 {
@@ -71,7 +71,7 @@ pub fn second_entry(memory: &[u8], r: Ring) -> Submission
 
 // Whether a pair stands at the head of queue id. Nothing at or past the tail is read: the next slot only if at least two entries are
 // submitted.
-pub fn is_pair(memory: &[u8], id: u8, r: Ring) -> bool
+pub(crate) fn is_pair(memory: &[u8], id: u8, r: Ring) -> bool
     requires { ⌜ Inside (length (now memory)) r ⌝ }
     ensures { λ x. ⌜ x ≡ isPair id r (now (memory .entry)) ⌝ }
 {

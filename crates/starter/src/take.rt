@@ -63,7 +63,7 @@ fn leave(state: &mut [u64; WORDS], free: u64, arbiter: Arbiter, number: u64)
 }
 
 // The entry e at the head of queue id is taken with the lowest free tag.
-pub fn take_one(state: &mut [u64; WORDS], id: u8, next: Arbiter, e: Submission) -> Started
+pub(crate) fn take_one(state: &mut [u64; WORDS], id: u8, next: Arbiter, e: Submission) -> Started
     requires { ⌜ (id < 16) × Sound (now state) × RingOk (sqAt (held (now state)) id .ring) ⌝ }
     ensures { λ r. ⌜ Sound (now (state .exit)) × ((m : Memory) → outcome (ofStarted r) (held (now (state .exit))) m
         ≡ takeOne (held (now (state .entry))) m id next e) ⌝ }
@@ -101,7 +101,7 @@ pub fn take_one(state: &mut [u64; WORDS], id: u8, next: Arbiter, e: Submission) 
 }
 
 // The entries e and f at the head of queue id are taken with the two lowest free tags, each half linked to the other.
-pub fn take_pair(
+pub(crate) fn take_pair(
     state: &mut [u64; WORDS],
     id: u8,
     next: Arbiter,

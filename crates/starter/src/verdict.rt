@@ -15,7 +15,7 @@ const COMPARE: u8 = 5;
 const WRITE: u8 = 1;
 
 // Whether one of two CIDs is in use by an outstanding command of the queue. Only the tags that are not free are looked at.
-pub fn in_use(state: &[u64; WORDS], sq: u8, a: u16, b: u16) -> bool
+pub(crate) fn in_use(state: &[u64; WORDS], sq: u8, a: u16, b: u16) -> bool
     ensures { λ r. ⌜ (let c = held (now (state .entry)) in
         r ≡ inUse (c .commands) (c .free) sq a || inUse (c .commands) (c .free) sq b) ⌝ }
 {
@@ -32,7 +32,7 @@ pub fn in_use(state: &[u64; WORDS], sq: u8, a: u16, b: u16) -> bool
 }
 
 // The verdict on a command that is taken alone; `used` says whether its CID is in use.
-pub fn verdict_one(id: u8, e: Submission, used: bool) -> u16
+pub(crate) fn verdict_one(id: u8, e: Submission, used: bool) -> u16
     ensures { λ r. ⌜ r ≡ verdictOne id e used ⌝ }
 {
     let fuse = e.fuse;
@@ -59,7 +59,7 @@ pub fn verdict_one(id: u8, e: Submission, used: bool) -> u16
 }
 
 // The verdict on a pair; `used` says whether one of its CIDs is in use.
-pub fn verdict_pair(a: Submission, b: Submission, used: bool) -> u16
+pub(crate) fn verdict_pair(a: Submission, b: Submission, used: bool) -> u16
     ensures { λ r. ⌜ ((x y : Bool) → used ≡ (x || y) → r ≡ verdictPair a b x y) ⌝ }
 {
     if !((a.opc == COMPARE) & (b.opc == WRITE)) {
