@@ -82,7 +82,7 @@ fn post(memory: &mut [u8], q: CompletionQueue, k: Command, sqhd: u16, status: u6
     ensures { λ _. ⌜ now (memory .exit) ≡ put (now (memory .entry)) (q .ring .base + 16 * q .ring .tail)
         (completionBytes (completion result sqhd (k .sq) (k .cid) status) (q .phase)) ⌝ }
 {
-    let o = (q.ring.base + 16 * (q.ring.tail as u64)) as usize;
+    let o = (q.ring.base + Controller::COMPLETION_BYTES * (q.ring.tail as u64)) as usize;
     entry::completion::write(
         &mut memory[o..],
         result,

@@ -29,10 +29,10 @@ fn masks_of(state: &[u64; WORDS]) -> u64
 {
     let mut masks: u64 = 0;
     let mut i: usize = 0;
-    while i < 16 {
+    while i < store::Controller::QUEUES {
         let q = sq_at(state, i);
         if is_candidate(q) {
-            let place = 16 * (q.class as usize) + i;
+            let place = store::Controller::QUEUES * (q.class as usize) + i;
             masks = masks + (1 << place);
         }
         i += 1;

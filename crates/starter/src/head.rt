@@ -11,6 +11,7 @@ use entry::submission::Submission;
 use entry::submission::SubmissionRead;
 use ring::slots::distance_in;
 use ring::slots::next_slot;
+use store::Controller;
 
 // What stands for no entry, where a reader refuses.
 fn blank() -> Submission {
@@ -48,8 +49,9 @@ fn entry_at(memory: &[u8], r: Ring, p: u64) -> Submission
     requires { ⌜ (p < r .size) × Inside (length (now memory)) r ⌝ }
     ensures { λ x. ⌜ x ≡ entryAt (now (memory .entry)) r p ⌝ }
 {
-    let from = (r.base + 64 * p) as usize;
-    let to = from + 64;
+    let place = r.base + Controller::SUBMISSION_BYTES * p;
+    let from = place as usize;
+    let to = (place + Controller::SUBMISSION_BYTES) as usize;
     read(&memory[from..to])
 }
 
