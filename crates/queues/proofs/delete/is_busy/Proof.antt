@@ -2,6 +2,7 @@
 -- many are left. Assumes nothing.
 use Prim.Native.Nat.{_-_}
 use mathlib.Core.Path.{sym, _∙_}
+use native.Mathlib.Omega.{arith}
 use borrow.Author.Needs.{needs}
 use Rattle.controller.specs.Delete.{takenFrom, busy}
 use Rattle.store.specs.Held.{held}
@@ -17,16 +18,16 @@ abbrev μ-loop : tie.MeasureT-loop
 
 returns : tie.Need-returns Inv-loop μ-loop
 unfolding busy
-returns c = let x = c .before in found 64 _ _ (x .before .loop-test .taken) (sym (x .taken-from .ensures) ∙ c .if1 .taken)
+returns c = let x = c .before in found 64 _ _ (omega arith) (sym (x .taken-from .ensures) ∙ c .if1 .taken)
 
 loop-again : tie.Need-loop-again Inv-loop μ-loop
 loop-again c =
     let x = c .before in
-    goes-on 64 _ (x .before .before .loop .inv) (x .before .loop-test .taken) (sym (x .taken-from .ensures) ∙ c .if1 .left)
+    goes-on 64 _ (x .before .before .loop .inv) (omega arith) (sym (x .taken-from .ensures) ∙ c .if1 .left)
 
 returns-2 : tie.Need-returns-2 Inv-loop μ-loop
 unfolding busy
-returns-2 c = ends 64 _ (c .before .loop .inv) (c .loop-test .left)
+returns-2 c = ends 64 _ (c .before .loop .inv) (omega arith)
 
 pub is-busy-spec : {M : Type 1} → statement M
 is-busy-spec =

@@ -1,6 +1,7 @@
 -- `is_named` meets its contract. The loop's invariant: no queue passed names the other; the measure is how many are left. Assumes nothing.
 use Prim.Native.Nat.{_-_}
 use mathlib.Core.Path.{sym, _∙_}
+use native.Mathlib.Omega.{arith}
 use borrow.Author.Needs.{needs}
 use Rattle.controller.specs.Delete.{naming, named}
 use Rattle.store.specs.Held.{held}
@@ -16,16 +17,16 @@ abbrev μ-loop : tie.MeasureT-loop
 
 returns : tie.Need-returns Inv-loop μ-loop
 unfolding named
-returns c = let x = c .before in found 16 _ _ (x .before .loop-test .taken) (sym (x .is-naming .ensures) ∙ c .if1 .taken)
+returns c = let x = c .before in found 16 _ _ (omega arith) (sym (x .is-naming .ensures) ∙ c .if1 .taken)
 
 loop-again : tie.Need-loop-again Inv-loop μ-loop
 loop-again c =
     let x = c .before in
-    goes-on 16 _ (x .before .before .loop .inv) (x .before .loop-test .taken) (sym (x .is-naming .ensures) ∙ c .if1 .left)
+    goes-on 16 _ (x .before .before .loop .inv) (omega arith) (sym (x .is-naming .ensures) ∙ c .if1 .left)
 
 returns-2 : tie.Need-returns-2 Inv-loop μ-loop
 unfolding named
-returns-2 c = ends 16 _ (c .before .loop .inv) (c .loop-test .left)
+returns-2 c = ends 16 _ (c .before .loop .inv) (omega arith)
 
 pub is-named-spec : {M : Type 1} → statement M
 is-named-spec =

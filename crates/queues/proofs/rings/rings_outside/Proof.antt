@@ -3,6 +3,7 @@
 use Prim.Native.Nat.{ℕ, _-_}
 use mathlib.Core.Bool.{Bool}
 use mathlib.Core.Path.{_≡_, _∙_}
+use native.Mathlib.Omega.{arith}
 use borrow.Author.Needs.{needs}
 use Rattle.controller.specs.Rings.{eitherRing, someRing, endsPast, outside}
 use Rattle.store.specs.Held.{held}
@@ -41,22 +42,22 @@ returns c =
     let x = c .before in
     let q = x .before in
     let a = turn q .before .before .args in
-    found 16 _ _ (turn q .loop-test .taken)
+    found 16 _ _ (omega arith)
     (sq-passes (held (a .state .now)) (endsPast (a .n)) _ (q .sq-at .ensures) (x .ring-outside .ensures) (c .if1 .taken))
 
 returns-2 : tie.Need-returns-2 Inv-loop μ-loop
 unfolding outside someRing
-returns-2 c = let y = c .before in found 16 _ _ (turn (sq y) .loop-test .taken) (either y ∙ c .if2 .taken)
+returns-2 c = let y = c .before in found 16 _ _ (omega arith) (either y ∙ c .if2 .taken)
 
 loop-again : tie.Need-loop-again Inv-loop μ-loop
 loop-again c =
     let y = c .before in
     let t = turn (sq y) in
-    goes-on 16 _ (t .before .loop .inv) (t .loop-test .taken) (either y ∙ c .if2 .left)
+    goes-on 16 _ (t .before .loop .inv) (omega arith) (either y ∙ c .if2 .left)
 
 returns-3 : tie.Need-returns-3 Inv-loop μ-loop
 unfolding outside someRing
-returns-3 c = ends 16 _ (c .before .loop .inv) (c .loop-test .left)
+returns-3 c = ends 16 _ (c .before .loop .inv) (omega arith)
 
 pub rings-outside-spec : {M : Type 1} → statement M
 rings-outside-spec =
