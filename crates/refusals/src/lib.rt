@@ -1,11 +1,19 @@
-// What refusal numbers mean, in the words of the table of document 01. Each function writes from `at` on and answers the place after
-// what it wrote.
+// What refusal numbers mean, in the words of document 01's table, and from 30 on of document 02's tickets. Each function writes from
+// `at` on and answers the place after what it wrote.
 ghost use Prim.Native.Nat.{_+_, _≤_};
 ghost use lib.ListN.{length};
 use crate::text::put_named;
 use words::print::put;
 
 pub mod text;
+
+// The largest number that any call or record is refused with.
+pub const LARGEST: usize = 35;
+
+// Whether a number is a record's own, which then asks for no call: 30 an unknown call or a nonzero spare byte, 31 a short record.
+pub fn is_of_record(n: u64) -> bool {
+    n == 30 || n == 31
+}
 
 // Of a create.
 fn put_of_create(out: &mut [u8], at: usize, n: u64) -> usize

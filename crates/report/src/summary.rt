@@ -1,14 +1,16 @@
 // The records of a trace, counted.
 ghost use Prim.Native.Nat.{_+_, _<_, _≤_};
 ghost use lib.ListN.{length};
+use refusals::LARGEST;
+use refusals::is_of_record;
 use refusals::put_meaning;
 use refusals::text::put_named;
 use refusals::text::put_pair;
 use words::print::put;
 use words::print::put_end;
 
-// One more than the largest refusal number.
-const NUMBERS: usize = 32;
+// A place for each refusal number, and for 0.
+const NUMBERS: usize = LARGEST + 1;
 
 // How many records there were, how many of them asked for a call, how many were refused, and how many by each number.
 pub struct Tally {
@@ -34,17 +36,17 @@ impl Tally {
 
     fn refused(mut self, refusal: u64) -> Tally {
         self.refused = plus_one(self.refused);
-        if refusal < 32 {
-            let i = refusal as usize;
+        let i = refusal as usize;
+        if i < NUMBERS {
             self.numbers[i] = plus_one(self.numbers[i]);
         }
         self
     }
 
-    // Counts a record by its refusal number: 30 and 31 ask for no call.
+    // Counts a record by its refusal number, 0 for none.
     pub fn with(mut self, refusal: u64) -> Tally {
         self.records = plus_one(self.records);
-        if refusal < 30 {
+        if !is_of_record(refusal) {
             self.calls = plus_one(self.calls);
         }
         if refusal == 0 {
@@ -96,10 +98,10 @@ fn put_counts(out: &mut [u8], tally: Tally) -> usize
     put(out, refused, b" refused\n")
 }
 
-// The counts, and a row for each number that refused a record.
+// The counts, and a row for each number that refused a record. An answer record has a byte for the number: there is room for 256.
 pub fn put_summary(out: &mut [u8], tally: Tally) -> usize
-    requires { ⌜ 5120 ≤ length (now out) ⌝ }
-    ensures { λ r. ⌜ r ≤ 5120 ⌝ }
+    requires { ⌜ 40960 ≤ length (now out) ⌝ }
+    ensures { λ r. ⌜ r ≤ 40960 ⌝ }
 {
     let numbers = tally.numbers;
     let mut to = put_counts(out, tally);

@@ -7,10 +7,10 @@ use Rattle.report.proofs.summary.put_summary.Statement.{statement}
 use Rattle.report.proofs.summary.put_summary.Tie as tie
 
 abbrev Inv-loop : tie.InvT-loop
-Inv-loop out₀ numbers to₀ i₀ out to i = (to ≤ 160 * i) × (i ≤ 32) × (length out ≡ length out₀)
+Inv-loop out₀ numbers to₀ i₀ out to i = (to ≤ 160 * i) × (i ≤ 256) × (length out ≡ length out₀)
 
 abbrev μ-loop : tie.MeasureT-loop
-μ-loop out₀ numbers to₀ i₀ out to i = 32 - i
+μ-loop out₀ numbers to₀ i₀ out to i = 256 - i
 
 pub put-summary-spec : {M : Type 1} → statement M
 put-summary-spec =
