@@ -3,31 +3,21 @@ ghost use mathlib.Core.Path.{_≡_};
 ghost use Prim.Native.Nat.{_+_, _≤_};
 ghost use lib.ListN.{length};
 ghost use Rattle.dialogue.specs.Kept.{Kept};
-use crate::form::Form;
-use crate::form::put_line;
-use crate::form::put_wanted;
 use libc::STDERR_FILENO;
 use libc::STDIN_FILENO;
 use lines::CHUNK_BYTES;
 use lines::Found;
 use lines::LINE_BYTES;
-use lines::Lines;
-use shell::Shell;
-
-mod form;
-
-const MEMORY_BYTES: usize = 1048576;
-
-const OUT_BYTES: usize = 65536;
-
-// The room that an answer may need, 16,384 bytes, and its line before it, with the LF and the arrow between them.
-const ROOM_BYTES: usize = 20485;
+use session::MEMORY_BYTES;
+use session::OUT_BYTES;
+use session::ROOM_BYTES;
+use session::Session;
+use session::form::Form;
 
 // Of how many lines the answers are written out, and how many bytes of answers are not yet; whether the conversation goes on,
 // and the form of its answers.
 struct Dialogue {
-    shell: Shell,
-    lines: Lines,
+    session: Session,
     answered: u64,
     unwritten: usize,
     open: bool,
@@ -64,7 +54,8 @@ fn write_out(mut s: Dialogue, out: &[u8]) -> Dialogue
     if error > 0 {
         return give_up(s, b"write", error);
     }
-    let lines = s.lines;
+    let session = s.session;
+    let lines = session.lines;
     s.answered = lines.ended;
     s
 }
@@ -77,38 +68,12 @@ fn with_room(s: Dialogue, out: &[u8]) -> Dialogue
     if OUT_BYTES - s.unwritten < ROOM_BYTES {
         return write_out(s, out);
     }
-    let lines = s.lines;
+    let session = s.session;
+    let lines = session.lines;
     if lines.at == lines.count {
         return write_out(s, out);
     }
     s
-}
-
-// Answers a line of a number behind the answers that are not yet written out.
-fn answer(s: Dialogue, number: u64, memory: &mut [u8], line: &[u8], out: &mut [u8]) -> Dialogue
-    requires { ⌜ Kept s × (s .unwritten + 20485 ≤ 65536) × (length (now line) ≤ 4097) ⌝ }
-    requires { ⌜ (1048576 ≤ length (now memory)) × (65536 ≡ length (now out)) ⌝ }
-    ensures { λ r. ⌜ Kept r ⌝ }
-{
-    let mut next = s;
-    let form = s.form;
-    let place = put_line(form, line, out, s.unwritten);
-    let start = place.answer;
-    let answered = shell::answer(s.shell, memory, line, number, &mut out[start..]);
-    let shell = answered.shell;
-    next.shell = shell;
-    next.unwritten = put_wanted(form, line, out, place, answered.length);
-    next
-}
-
-// Answers the line of n bytes that stands at the start of a buffer.
-fn respond(s: Dialogue, memory: &mut [u8], line: &[u8], n: usize, out: &mut [u8]) -> Dialogue
-    requires { ⌜ Kept s × (s .unwritten + 20485 ≤ 65536) × (n ≤ 4097) × (4097 ≡ length (now line)) ⌝ }
-    requires { ⌜ (1048576 ≤ length (now memory)) × (65536 ≡ length (now out)) ⌝ }
-    ensures { λ r. ⌜ Kept r ⌝ }
-{
-    let lines = s.lines;
-    answer(s, lines.ended, memory, &line[..n], out)
 }
 
 // Writes the last answers out.
@@ -121,9 +86,9 @@ fn finish(s: Dialogue, out: &[u8]) -> Dialogue
     last
 }
 
-// Takes a step in the input, and answers a line that ended.
+// Takes a step in the input, and answers a line that ended behind the answers that are not yet written out.
 fn step(
-    s: Dialogue,
+    mut s: Dialogue,
     memory: &mut [u8],
     chunk: &mut [u8],
     line: &mut [u8],
@@ -133,16 +98,17 @@ fn step(
     requires { ⌜ (length (now chunk) ≡ 65536) × (length (now line) ≡ 4097) ⌝ }
     ensures { λ r. ⌜ Kept r ⌝ }
 {
-    let step = lines::next(STDIN_FILENO, s.lines, chunk, line);
-    let lines = step.lines;
+    let at = s.unwritten;
+    let form = s.form;
+    let step = session::next(s.session, STDIN_FILENO, form, memory, chunk, line, out, at);
+    let session = step.session;
     let found = step.found;
-    let mut next = s;
-    next.lines = lines;
+    s.session = session;
+    s.unwritten = step.end;
     match found {
-        Found::Line => respond(next, memory, line, step.length, out),
-        Found::Nothing => next,
-        Found::End => finish(next, out),
-        Found::Failed(error) => give_up(next, b"read", error),
+        Found::Line | Found::Nothing => s,
+        Found::End => finish(s, out),
+        Found::Failed(error) => give_up(s, b"read", error),
     }
 }
 
@@ -166,11 +132,9 @@ fn turn(
 fn first(form: Form) -> Dialogue
     ensures { λ r. ⌜ Kept r ⌝ }
 {
-    let shell = Shell::new();
-    let lines = lines::first();
+    let session = session::first();
     Dialogue {
-        shell: shell,
-        lines: lines,
+        session: session,
         answered: 0,
         unwritten: 0,
         open: true,

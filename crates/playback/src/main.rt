@@ -1,7 +1,7 @@
 // A plant's files: sets a controller and a memory up by the console lines of a file, replays a trace on them, and tells each
 // record and its answer in words.
 use libc::STDERR_FILENO;
-use setup::MEMORY_BYTES;
+use session::MEMORY_BYTES;
 use setup::fault::say_path;
 
 mod play;
@@ -25,7 +25,8 @@ fn run(setup: i32, trace: i32) {
     let mut memory = [0u8; MEMORY_BYTES];
     let s = setup::run(setup, &mut memory);
     if s.good {
-        play::run(s.shell, trace, &mut memory);
+        let session = s.session;
+        play::run(session.shell, trace, &mut memory);
     }
 }
 

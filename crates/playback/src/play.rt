@@ -10,7 +10,7 @@ use report::piece::ROOM_BYTES;
 use report::piece::put_piece;
 use report::summary::Tally;
 use report::summary::put_summary;
-use setup::MEMORY_BYTES;
+use session::MEMORY_BYTES;
 use setup::fault::say_at;
 use shell::Shell;
 use stream::Input;

@@ -51,16 +51,24 @@ fn run(
     room: &mut [u8],
     out: &mut [u8],
     at: usize,
-) -> usize
+) -> Text
     requires { ⌜ Reached (now state) × (length (now room) ≤ 2048) × (at ≤ 4096) × (16384 ≤ length (now out)) ⌝ }
-    ensures { λ r. ⌜ Reached (now (state .exit)) × (r ≤ 16383) ⌝ }
+    ensures { λ r. ⌜ Reached (now (state .exit)) × (r .end ≤ 16383) ⌝ }
 {
     match replay::replay(state, memory, trace, room) {
         Replayed::Records(n) => {
             let end = 16 * n as usize;
-            put_records(out, at, n, &room[..end])
+            Text {
+                good: true,
+                end: put_records(out, at, n, &room[..end]),
+                refusal: 0,
+            }
         }
-        Replayed::Refused(n) => put_head(out, at, n, 0),
+        Replayed::Refused(n) => Text {
+            good: true,
+            end: put_head(out, at, n, 0),
+            refusal: n,
+        },
     }
 }
 
@@ -90,15 +98,12 @@ pub fn replay(
     let mut answers = buffer();
     let trace_bytes = read.count;
     let room_bytes = room as usize;
-    Text {
-        good: true,
-        end: run(
-            state,
-            memory,
-            &trace[..trace_bytes],
-            &mut answers[..room_bytes],
-            out,
-            to,
-        ),
-    }
+    run(
+        state,
+        memory,
+        &trace[..trace_bytes],
+        &mut answers[..room_bytes],
+        out,
+        to,
+    )
 }

@@ -34,10 +34,13 @@ pub struct Shell {
     pub lent: usize,
 }
 
-// The shell after a line, and the length of the answer: 0 where there is none.
+// The shell after a line, and the length of the answer, 0 where there is none; whether the line was good, and the number by which
+// a change that it asked for, of the controller or of an entry, was refused: 0 for none.
 pub struct Answered {
     pub shell: Shell,
     pub length: usize,
+    pub good: bool,
+    pub refusal: u64,
 }
 
 // The shell after a command, with its reply.
@@ -169,6 +172,32 @@ fn run(
     }
 }
 
+// Whether a command asks for a change of the controller or of an entry: its answer begins with a refusal number.
+fn is_change(command: Command) -> bool {
+    match command {
+        Command::Controller
+        | Command::CreateCq
+        | Command::CreateSq
+        | Command::DeleteCq
+        | Command::DeleteSq
+        | Command::Tail
+        | Command::Head
+        | Command::Start
+        | Command::Finish
+        | Command::WriteSqe
+        | Command::WriteCqe => true,
+        _ => false,
+    }
+}
+
+// The refusal number among the numbers that a command answers: 0 for none.
+fn refusal_in(command: Command, numbers: [u64; 16]) -> u64 {
+    if is_change(command) {
+        return numbers[0];
+    }
+    0
+}
+
 // A command on the memory that is lent; `at` is the place after its word in the line, and `to` in the answer.
 fn act(
     shell: Shell,
@@ -204,6 +233,7 @@ fn act(
                 text: Text {
                     good: reply.good,
                     end: put_numbers(out, to, &replied, reply.count),
+                    refusal: refusal_in(command, replied),
                 },
             }
         }
@@ -217,6 +247,8 @@ fn answer_bad(shell: Shell, number: u64, out: &mut [u8]) -> Answered
     Answered {
         shell: shell,
         length: put_bad(out, number),
+        good: false,
+        refusal: 0,
     }
 }
 
@@ -233,6 +265,8 @@ fn close(done: Done, number: u64, out: &mut [u8]) -> Answered
     Answered {
         shell: shell,
         length: put_end(out, text.end),
+        good: true,
+        refusal: text.refusal,
     }
 }
 
@@ -275,6 +309,8 @@ pub fn answer(shell: Shell, memory: &mut [u8], line: &[u8], number: u64, out: &m
         return Answered {
             shell: shell,
             length: 0,
+            good: true,
+            refusal: 0,
         };
     }
     obey(shell, memory, line, word, number, out)

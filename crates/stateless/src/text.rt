@@ -7,10 +7,12 @@ use words::print::put_hex;
 use words::print::put_next;
 use words::print::put_one;
 
-// Whether the line was good, and the place after its answer.
+// Whether the line was good, the place after its answer, and the number by which a change of the controller or of an entry was
+// refused: 0 for none.
 pub struct Text {
     pub good: bool,
     pub end: usize,
+    pub refusal: u64,
 }
 
 pub fn bad() -> Text
@@ -19,6 +21,7 @@ pub fn bad() -> Text
     Text {
         good: false,
         end: 0,
+        refusal: 0,
     }
 }
 
@@ -43,6 +46,7 @@ pub fn peek(memory: &[u8], a: [u64; 16], out: &mut [u8], at: usize) -> Text
         return Text {
             good: true,
             end: at,
+            refusal: 0,
         };
     }
     let from = first as usize;
@@ -51,6 +55,7 @@ pub fn peek(memory: &[u8], a: [u64; 16], out: &mut [u8], at: usize) -> Text
     Text {
         good: true,
         end: put_hex(out, start, &memory[from..to]),
+        refusal: 0,
     }
 }
 
@@ -125,11 +130,13 @@ pub fn walk(memory: &[u8], a: [u64; 16], out: &mut [u8], at: usize) -> Text
             Text {
                 good: true,
                 end: put_pages(out, to, &addresses, &counts, pages),
+                refusal: 0,
             }
         }
         Walked::Refused(n) => Text {
             good: true,
             end: put_walk(out, at, n, 0, 0),
+            refusal: 0,
         },
     }
 }

@@ -1,14 +1,12 @@
--- `setup::step` keeps the set-up: a line that ended lies in its buffer. Assumes nothing.
+-- `setup::step` keeps the session: a line that ended lies in its buffer. Assumes nothing.
 use borrow.Author.Needs.{needs}
 use Rattle.setup.proofs.step.Statement.{statement}
 use Rattle.setup.proofs.step.Tie as tie
 
-respond-requires : tie.Need-respond-requires
-respond-requires c κs =
-    let found = c .before .before .before .before .before .before .before .before .before .before in
-    let start = found .before .before .before .before .before .before .before in
-    let read = found .next .ensures in
-    ((record { ready = start .pre .0 .0 .ready; lines = read .0 }, read .1, search needs), search needs)
+judge-requires : tie.Need-judge-requires
+judge-requires c κs =
+    let found = c .before .before .before .before .before .before .before .before .before .before .before .before .before .before in
+    (found .next .ensures .2, search needs, search needs)
 
 pub step-spec : {M : Type 1} → statement M
 step-spec =
@@ -16,12 +14,18 @@ step-spec =
     (tie.spec
     (λ c κs. search needs)
     (λ c. search needs)
-    respond-requires
+    judge-requires
     (λ c. search needs)
     (λ c. search needs)
     (λ c κs. search needs)
     (λ c. search needs)
     (λ c κs. search needs)
+    (λ c. search needs)
+    (λ c. search needs)
+    (λ c. search needs)
+    (λ c. search needs)
+    (λ c. search needs)
+    (λ c. search needs)
     (λ c. search needs)
     (λ c. search needs)
     (λ c. search needs)

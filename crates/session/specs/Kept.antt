@@ -1,9 +1,9 @@
--- What holds of a set-up between its steps. Assumes nothing.
+-- What holds of a session between its steps. Assumes nothing.
 use Rattle.lines.specs.Inside.{Inside}
 use Rattle.shell.specs.Ready.{Ready}
-use Rattle.setup.specs.declared.Setup.{Setup}
+use Rattle.session.specs.declared.Session.{Session}
 
 -- its shell is ready, and its lines lie inside their buffers
-pub record Kept (s : Setup) : Type 0 where
+pub record Kept (s : Session) : Type 0 where
   pub ready : Ready (s .shell)
   pub lines : Inside (s .lines)

@@ -1,23 +1,24 @@
--- `dialogue::respond` keeps the dialogue: the line is no longer than its buffer. Assumes nothing.
+-- `session::answer` keeps the session: the line is no longer than its buffer. Assumes nothing.
 use borrow.Author.Needs.{needs}
 use Prim.Native.Nat.{ℕ}
 use lib.Seq.{length-take-le}
 use mathlib.Core.Path.{sym}
 use Rattle.lines.proofs.Prefix.{at-most}
-use Rattle.dialogue.proofs.respond.Statement.{statement}
-use Rattle.dialogue.proofs.respond.Tie as tie
+use Rattle.session.proofs.answer.Statement.{statement}
+use Rattle.session.proofs.answer.Tie as tie
 
-answer-requires : tie.Need-answer-requires
-answer-requires c κs =
+put-answer-requires : tie.Need-put-answer-requires
+put-answer-requires c κs =
     let n : ℕ = c .before .before .before .before .before .before .before .args .n in
     ((search needs, search needs, at-most n _ (search needs)), search needs)
 
-pub respond-spec : {M : Type 1} → statement M
-respond-spec =
+pub answer-spec : {M : Type 1} → statement M
+answer-spec =
     tie.close
     (tie.spec
     (λ c. sym (length-take-le _ _ (search needs)))
-    answer-requires
+    put-answer-requires
+    (λ c κs. search needs)
     (λ c. search needs)
     (λ c. search needs)
     (λ c. search needs))

@@ -1,9 +1,9 @@
--- `dialogue::form::is_same` stays in both texts and ends. Assumes nothing.
+-- `session::form::is_same` stays in both texts and ends. Assumes nothing.
 use borrow.Author.Needs.{needs}
 use Prim.Native.Nat.{_≤_, _-_}
 use lib.ListN.{length}
-use Rattle.dialogue.proofs.form.is_same.Statement.{statement}
-use Rattle.dialogue.proofs.form.is_same.Tie as tie
+use Rattle.session.proofs.form.is_same.Statement.{statement}
+use Rattle.session.proofs.form.is_same.Tie as tie
 
 abbrev Inv-loop : tie.InvT-loop
 Inv-loop a b i₀ i = i ≤ length a

@@ -1,4 +1,5 @@
 // The forms that an answer is printed in: what stands before it and beside it.
+ghost use mathlib.Core.Path.{_≡_};
 ghost use Prim.Native.Nat.{_+_, _≤_};
 ghost use lib.ListN.{length};
 
@@ -100,8 +101,8 @@ fn compare(line: &[u8], out: &mut [u8], at: usize, n: usize) -> usize
 
 // The place after an answer of n bytes, and after what is wanted beside it, where that is asked for.
 pub fn put_wanted(form: Form, line: &[u8], out: &mut [u8], place: Place, n: usize) -> usize
-    requires { ⌜ (place .none ≤ place .answer) × (place .answer + n ≤ length (now out)) ⌝ }
-    ensures { λ r. ⌜ r ≤ length (now (out .entry)) ⌝ }
+    requires { ⌜ (place .none ≤ place .answer) × (place .answer + n ≤ 65536) × (65536 ≡ length (now out)) ⌝ }
+    ensures { λ r. ⌜ r ≤ 65536 ⌝ }
 {
     if n == 0 {
         return place.none;

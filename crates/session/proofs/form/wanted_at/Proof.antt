@@ -1,9 +1,9 @@
--- `dialogue::form::wanted_at` stays in the line and ends. Assumes nothing.
+-- `session::form::wanted_at` stays in the line and ends. Assumes nothing.
 use borrow.Author.Needs.{needs}
 use Prim.Native.Nat.{_≤_, _-_}
 use lib.ListN.{length}
-use Rattle.dialogue.proofs.form.wanted_at.Statement.{statement}
-use Rattle.dialogue.proofs.form.wanted_at.Tie as tie
+use Rattle.session.proofs.form.wanted_at.Statement.{statement}
+use Rattle.session.proofs.form.wanted_at.Tie as tie
 
 abbrev Inv-loop : tie.InvT-loop
 Inv-loop line i₀ i = i ≤ length line

@@ -1,0 +1,150 @@
+// A session: the lines of a file, each given to a shell with its number and answered.
+ghost use mathlib.Core.Path.{_≡_};
+ghost use Prim.Native.Nat.{_+_, _≤_};
+ghost use lib.ListN.{length};
+ghost use Rattle.session.specs.Kept.{Kept};
+ghost use Rattle.shell.specs.Ready.{Ready};
+use crate::form::Form;
+use crate::form::put_line;
+use crate::form::put_wanted;
+use lines::Found;
+use lines::Lines;
+use shell::Answered;
+use shell::Shell;
+
+pub mod form;
+
+pub const MEMORY_BYTES: usize = 1048576;
+
+// The room for answers.
+pub const OUT_BYTES: usize = 65536;
+
+// The room that an answer may need, 16,384 bytes, and its line before it, with the LF and the arrow between them.
+pub const ROOM_BYTES: usize = 20485;
+
+pub struct Session {
+    pub shell: Shell,
+    pub lines: Lines,
+}
+
+// The session after a step, what the step found, and the place after what it put. Of a line that ended: its length, whether it was
+// good, and the number by which a change that it asked for was refused, 0 for none.
+pub struct Step {
+    pub session: Session,
+    pub found: Found,
+    pub end: usize,
+    pub length: usize,
+    pub good: bool,
+    pub refusal: u64,
+}
+
+// No line is read yet.
+pub fn first() -> Session
+    ensures { λ r. ⌜ Kept r ⌝ }
+{
+    let shell = Shell::new();
+    let lines = lines::first();
+    Session {
+        shell: shell,
+        lines: lines,
+    }
+}
+
+// A step that ended a line of so many bytes, which is answered.
+fn with_line(s: Session, end: usize, length: usize, good: bool, refusal: u64) -> Step
+    requires { ⌜ Kept s × (end ≤ 65536) × (length ≤ 4097) ⌝ }
+    ensures { λ r. ⌜ Kept (r .session) × (r .end ≤ 65536) × (r .length ≤ 4097) ⌝ }
+{
+    Step {
+        session: s,
+        found: Found::Line,
+        end: end,
+        length: length,
+        good: good,
+        refusal: refusal,
+    }
+}
+
+// A step that ends no line.
+fn without_line(s: Session, found: Found, at: usize) -> Step
+    requires { ⌜ Kept s × (at ≤ 65536) ⌝ }
+    ensures { λ r. ⌜ Kept (r .session) × (r .end ≤ 65536) × (r .length ≤ 4097) ⌝ }
+{
+    Step {
+        session: s,
+        found: found,
+        end: at,
+        length: 0,
+        good: true,
+        refusal: 0,
+    }
+}
+
+// Puts a line, where its form repeats it, its answer and what is wanted from `at` on; the length answered is that of the whole buffer's
+// text.
+fn put_answer(
+    shell: Shell,
+    number: u64,
+    form: Form,
+    memory: &mut [u8],
+    line: &[u8],
+    out: &mut [u8],
+    at: usize,
+) -> Answered
+    requires { ⌜ Ready shell × (at + 20485 ≤ 65536) × (length (now line) ≤ 4097) ⌝ }
+    requires { ⌜ (1048576 ≤ length (now memory)) × (65536 ≡ length (now out)) ⌝ }
+    ensures { λ r. ⌜ Ready (r .shell) × (r .length ≤ 65536) ⌝ }
+{
+    let place = put_line(form, line, out, at);
+    let start = place.answer;
+    let mut answered = shell::answer(shell, memory, line, number, &mut out[start..]);
+    answered.length = put_wanted(form, line, out, place, answered.length);
+    answered
+}
+
+// Answers the line of n bytes that stands at the start of a buffer.
+fn answer(
+    mut s: Session,
+    form: Form,
+    memory: &mut [u8],
+    line: &[u8],
+    n: usize,
+    out: &mut [u8],
+    at: usize,
+) -> Step
+    requires { ⌜ Kept s × (at + 20485 ≤ 65536) × (n ≤ 4097) × (4097 ≡ length (now line)) ⌝ }
+    requires { ⌜ (1048576 ≤ length (now memory)) × (65536 ≡ length (now out)) ⌝ }
+    ensures { λ r. ⌜ Kept (r .session) × (r .end ≤ 65536) × (r .length ≤ 4097) ⌝ }
+{
+    let lines = s.lines;
+    let answered = put_answer(s.shell, lines.ended, form, memory, &line[..n], out, at);
+    let shell = answered.shell;
+    s.shell = shell;
+    with_line(s, answered.length, n, answered.good, answered.refusal)
+}
+
+// Takes a step in a file. A line that ended stands at the start of `line`, and is answered from `at` on.
+pub fn next(
+    s: Session,
+    fd: i32,
+    form: Form,
+    memory: &mut [u8],
+    chunk: &mut [u8],
+    line: &mut [u8],
+    out: &mut [u8],
+    at: usize,
+) -> Step
+    requires { ⌜ Kept s × (at + 20485 ≤ 65536) × (1048576 ≤ length (now memory)) × (65536 ≡ length (now out)) ⌝ }
+    requires { ⌜ (length (now chunk) ≡ 65536) × (length (now line) ≡ 4097) ⌝ }
+    ensures { λ r. ⌜ Kept (r .session) × (r .end ≤ 65536) × (r .length ≤ 4097) ⌝ }
+{
+    let read = lines::next(fd, s.lines, chunk, line);
+    let lines = read.lines;
+    let found = read.found;
+    let mut next = s;
+    next.lines = lines;
+    let Found::Line = found else {
+        return without_line(next, found, at);
+    };
+    answer(next, form, memory, line, read.length, out, at)
+}
