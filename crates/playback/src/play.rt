@@ -142,7 +142,7 @@ fn sum_up(tally: Tally, out: &mut [u8; ROOM_BYTES]) {
 
 // Replays the whole trace; the summary is printed where nothing has stopped it. A proved loop has to end: the turns are counted
 // down, from a number that no run uses up.
-pub fn run(shell: Shell, fd: i32, memory: &mut [u8; MEMORY_BYTES])
+pub(super) fn run(shell: Shell, fd: i32, memory: &mut [u8; MEMORY_BYTES])
     requires { ⌜ Ready shell ⌝ }
 {
     let mut trace = [0u8; PIECE_BYTES];

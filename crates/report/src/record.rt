@@ -128,7 +128,13 @@ fn put_answer(out: &mut [u8], at: usize, answer: &[u8]) -> usize
 }
 
 // A record of a number, and its answer.
-pub fn put_record(out: &mut [u8], at: usize, number: u64, bytes: &[u8], answer: &[u8]) -> usize
+pub(super) fn put_record(
+    out: &mut [u8],
+    at: usize,
+    number: u64,
+    bytes: &[u8],
+    answer: &[u8],
+) -> usize
     requires { ⌜ (at + 256 ≤ length (now out)) × (4 ≤ length (now answer)) ⌝ }
     ensures { λ r. ⌜ r ≤ at + 256 ⌝ }
 {

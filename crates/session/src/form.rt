@@ -32,7 +32,7 @@ pub struct Place {
 }
 
 // Puts the line, where it is repeated, and what sets its answer off from it.
-pub fn put_line(form: Form, line: &[u8], out: &mut [u8], at: usize) -> Place
+pub(super) fn put_line(form: Form, line: &[u8], out: &mut [u8], at: usize) -> Place
     requires { ⌜ at ≤ length (now out) ⌝ }
     ensures { λ r. ⌜ (r .none ≤ r .answer) × (r .answer ≤ at + length (now (line .entry)) + 4) ⌝ }
     ensures { λ r. ⌜ r .answer ≤ length (now (out .entry)) ⌝ }
@@ -100,7 +100,7 @@ fn compare(line: &[u8], out: &mut [u8], at: usize, n: usize) -> usize
 }
 
 // The place after an answer of n bytes, and after what is wanted beside it, where that is asked for.
-pub fn put_wanted(form: Form, line: &[u8], out: &mut [u8], place: Place, n: usize) -> usize
+pub(super) fn put_wanted(form: Form, line: &[u8], out: &mut [u8], place: Place, n: usize) -> usize
     requires { ⌜ (place .none ≤ place .answer) × (place .answer + n ≤ 65536) × (65536 ≡ length (now out)) ⌝ }
     ensures { λ r. ⌜ r ≤ 65536 ⌝ }
 {

@@ -7,7 +7,7 @@ use words::print::put;
 use words::print::put_end;
 
 // The line's number, its command's word and the refusal.
-pub fn put_refused_line(out: &mut [u8], number: u64, word: &[u8], refusal: u64) -> usize
+pub(super) fn put_refused_line(out: &mut [u8], number: u64, word: &[u8], refusal: u64) -> usize
     requires { ⌜ length (now word) + 256 ≤ length (now out) ⌝ }
     ensures { λ r. ⌜ r ≤ length (now (word .entry)) + 256 ⌝ }
 {

@@ -68,7 +68,12 @@ fn finished(answer: Finished) -> Reply {
 }
 
 // Makes a call, or a fresh controller.
-pub fn call(state: &mut [u64; WORDS], memory: &mut [u8], command: Command, a: [u64; 16]) -> Reply
+pub(super) fn call(
+    state: &mut [u64; WORDS],
+    memory: &mut [u8],
+    command: Command,
+    a: [u64; 16],
+) -> Reply
     requires { ⌜ Reached (now state) ⌝ }
     ensures { λ _. ⌜ Reached (now (state .exit)) ⌝ }
 {
@@ -133,7 +138,7 @@ fn show_tag(state: &[u64; WORDS], a: [u64; 16]) -> Reply {
         .and(k.number)
 }
 
-pub fn show(state: &[u64; WORDS], command: Command, a: [u64; 16]) -> Reply {
+pub(super) fn show(state: &[u64; WORDS], command: Command, a: [u64; 16]) -> Reply {
     match command {
         Command::ShowSq => show_sq(state, a),
         Command::ShowCq => show_cq(state, a),

@@ -75,7 +75,7 @@ pub fn poke(memory: &mut [u8], line: &[u8], at: usize, a: Arguments, wide: bool)
 }
 
 // Stores one byte everywhere.
-pub fn fill(part: &mut [u8], b: u8) {
+pub(crate) fn fill(part: &mut [u8], b: u8) {
     let mut i = 0;
     while i < part.len() {
         part[i] = b;

@@ -43,7 +43,7 @@ impl Reply {
         self
     }
 
-    pub fn and32(self, n: u32) -> Reply {
+    pub(crate) fn and32(self, n: u32) -> Reply {
         self.and(n as u64)
     }
 

@@ -160,7 +160,7 @@ pub fn named(word: &[u8]) -> Command {
 }
 
 // Whether a command takes so many numbers.
-pub fn takes(command: Command, count: usize) -> bool {
+pub(crate) fn takes(command: Command, count: usize) -> bool {
     match command {
         Command::Start => count == 0,
         Command::Lend
@@ -188,7 +188,7 @@ pub fn takes(command: Command, count: usize) -> bool {
 }
 
 // Whether the words after so many numbers of a command are no numbers, but its own to read.
-pub fn ends(command: Command, count: usize) -> bool {
+pub(crate) fn ends(command: Command, count: usize) -> bool {
     match command {
         Command::Replay => count == 1,
         _ => false,
@@ -232,7 +232,7 @@ fn largest_after(place: usize, largest: u64, i: usize) -> u64 {
 
 // The largest value of number i of a command, counted from 0, where its width sets it. Limits of memory, buffers and queues
 // are tested by the commands themselves.
-pub fn largest(command: Command, i: usize) -> u64 {
+pub(crate) fn largest(command: Command, i: usize) -> u64 {
     match command {
         Command::Controller => largest_at(1, BITS32, i),
         Command::Poke => largest_after(0, BYTE, i),

@@ -8,7 +8,7 @@ pub enum Number {
 }
 
 // What a digit of either base stands for; 16 where the byte is no digit.
-pub fn digit(b: u8) -> u64
+pub(crate) fn digit(b: u8) -> u64
     ensures { λ r. ⌜ r ≤ 16 ⌝ }
 {
     match b {
