@@ -3,16 +3,17 @@ ghost use mathlib.Core.Path.{_≡_};
 ghost use Prim.Native.Nat.{_+_, _≤_};
 ghost use lib.ListN.{length};
 ghost use Rattle.dialogue.specs.Kept.{Kept};
+ghost use Rattle.words.specs.Sizes.{chunkBytes, heldBytes, memoryBytes, outBytes, roomBytes};
 use libc::STDERR_FILENO;
 use libc::STDIN_FILENO;
-use lines::CHUNK_BYTES;
 use lines::Found;
-use lines::LINE_BYTES;
-use session::MEMORY_BYTES;
-use session::OUT_BYTES;
-use session::ROOM_BYTES;
 use session::Session;
 use session::form::Form;
+use words::sizes::CHUNK_BYTES;
+use words::sizes::HELD_BYTES;
+use words::sizes::MEMORY_BYTES;
+use words::sizes::OUT_BYTES;
+use words::sizes::ROOM_BYTES;
 
 // Of how many lines the answers are written out, and how many bytes of answers are not yet; whether the conversation goes on,
 // and the form of its answers.
@@ -42,7 +43,7 @@ fn give_up(mut s: Dialogue, what: &[u8], error: u64) -> Dialogue
 
 // Writes the answers out.
 fn write_out(mut s: Dialogue, out: &[u8]) -> Dialogue
-    requires { ⌜ Kept s × (65536 ≡ length (now out)) ⌝ }
+    requires { ⌜ Kept s × (outBytes ≡ length (now out)) ⌝ }
     ensures { λ r. ⌜ Kept r × (r .unwritten ≡ 0) ⌝ }
 {
     let n = s.unwritten;
@@ -62,8 +63,8 @@ fn write_out(mut s: Dialogue, out: &[u8]) -> Dialogue
 
 // Writes the answers out where there is little room left for another, and before more is read.
 fn with_room(s: Dialogue, out: &[u8]) -> Dialogue
-    requires { ⌜ Kept s × (65536 ≡ length (now out)) ⌝ }
-    ensures { λ r. ⌜ Kept r × (r .unwritten + 20485 ≤ 65536) ⌝ }
+    requires { ⌜ Kept s × (outBytes ≡ length (now out)) ⌝ }
+    ensures { λ r. ⌜ Kept r × (r .unwritten + roomBytes ≤ outBytes) ⌝ }
 {
     if OUT_BYTES - s.unwritten < ROOM_BYTES {
         return write_out(s, out);
@@ -78,7 +79,7 @@ fn with_room(s: Dialogue, out: &[u8]) -> Dialogue
 
 // Writes the last answers out.
 fn finish(s: Dialogue, out: &[u8]) -> Dialogue
-    requires { ⌜ Kept s × (65536 ≡ length (now out)) ⌝ }
+    requires { ⌜ Kept s × (outBytes ≡ length (now out)) ⌝ }
     ensures { λ r. ⌜ Kept r ⌝ }
 {
     let mut last = write_out(s, out);
@@ -94,8 +95,8 @@ fn step(
     line: &mut [u8],
     out: &mut [u8],
 ) -> Dialogue
-    requires { ⌜ Kept s × (s .unwritten + 20485 ≤ 65536) × (1048576 ≤ length (now memory)) × (65536 ≡ length (now out)) ⌝ }
-    requires { ⌜ (length (now chunk) ≡ 65536) × (length (now line) ≡ 4097) ⌝ }
+    requires { ⌜ Kept s × (s .unwritten + roomBytes ≤ outBytes) × (memoryBytes ≤ length (now memory)) × (outBytes ≡ length (now out)) ⌝ }
+    requires { ⌜ (length (now chunk) ≡ chunkBytes) × (length (now line) ≡ heldBytes) ⌝ }
     ensures { λ r. ⌜ Kept r ⌝ }
 {
     let at = s.unwritten;
@@ -116,7 +117,7 @@ fn turn(
     s: Dialogue,
     memory: &mut [u8; MEMORY_BYTES],
     chunk: &mut [u8; CHUNK_BYTES],
-    line: &mut [u8; LINE_BYTES],
+    line: &mut [u8; HELD_BYTES],
     out: &mut [u8; OUT_BYTES],
 ) -> Dialogue
     requires { ⌜ Kept s ⌝ }
@@ -149,7 +150,7 @@ fn converse(first: Dialogue)
 {
     let mut memory = [0u8; MEMORY_BYTES];
     let mut chunk = [0u8; CHUNK_BYTES];
-    let mut line = [0u8; LINE_BYTES];
+    let mut line = [0u8; HELD_BYTES];
     let mut out = [0u8; OUT_BYTES];
     let mut s = first;
     let mut turns = u64::MAX;

@@ -3,13 +3,9 @@ ghost use mathlib.Core.Path.{_≡_};
 ghost use Prim.Native.Nat.{_<_, _≤_};
 ghost use lib.ListN.{length};
 ghost use Rattle.lines.specs.Inside.{Inside};
+ghost use Rattle.words.specs.Sizes.{chunkBytes, heldBytes};
 use words::line::without_cr;
-
-// The most bytes that are read at once.
-pub const CHUNK_BYTES: usize = 65536;
-
-// One byte more than a line may have, which shows that it is too long; further ones are dropped.
-pub const LINE_BYTES: usize = 4097;
+use words::sizes::HELD_BYTES;
 
 // How many lines have ended; how many bytes the chunk has, and where it is read on; how many bytes of the next line are held;
 // and whether more may come.
@@ -57,10 +53,10 @@ pub fn first() -> Lines
 }
 
 fn keep(line: &mut [u8], held: usize, b: u8) -> usize
-    requires { ⌜ (held ≤ 4097) × (4097 ≤ length (now line)) ⌝ }
-    ensures { λ r. ⌜ r ≤ 4097 ⌝ }
+    requires { ⌜ (held ≤ heldBytes) × (heldBytes ≤ length (now line)) ⌝ }
+    ensures { λ r. ⌜ r ≤ heldBytes ⌝ }
 {
-    if held < LINE_BYTES {
+    if held < HELD_BYTES {
         line[held] = b;
         return held + 1;
     }
@@ -68,8 +64,8 @@ fn keep(line: &mut [u8], held: usize, b: u8) -> usize
 }
 
 fn gather(chunk: &[u8], at: usize, line: &mut [u8], held: usize) -> Part
-    requires { ⌜ (at < length (now chunk)) × (held ≤ 4097) × (4097 ≤ length (now line)) ⌝ }
-    ensures { λ r. ⌜ (at < r .end) × (r .end ≤ length (now (chunk .entry))) × (r .held ≤ 4097) ⌝ }
+    requires { ⌜ (at < length (now chunk)) × (held ≤ heldBytes) × (heldBytes ≤ length (now line)) ⌝ }
+    ensures { λ r. ⌜ (at < r .end) × (r .end ≤ length (now (chunk .entry))) × (r .held ≤ heldBytes) ⌝ }
 {
     let mut i = at;
     let mut n = held;
@@ -94,7 +90,7 @@ fn gather(chunk: &[u8], at: usize, line: &mut [u8], held: usize) -> Part
 
 fn without_line(lines: Lines, found: Found) -> Step
     requires { ⌜ Inside lines ⌝ }
-    ensures { λ r. ⌜ Inside (r .lines) × (r .length ≤ 4097) ⌝ }
+    ensures { λ r. ⌜ Inside (r .lines) × (r .length ≤ heldBytes) ⌝ }
 {
     Step {
         lines: lines,
@@ -104,8 +100,8 @@ fn without_line(lines: Lines, found: Found) -> Step
 }
 
 fn with_line(mut lines: Lines, length: usize) -> Step
-    requires { ⌜ Inside lines × (length ≤ 4097) ⌝ }
-    ensures { λ r. ⌜ Inside (r .lines) × (r .length ≤ 4097) ⌝ }
+    requires { ⌜ Inside lines × (length ≤ heldBytes) ⌝ }
+    ensures { λ r. ⌜ Inside (r .lines) × (r .length ≤ heldBytes) ⌝ }
 {
     lines.ended = std::num::wrapping_add_u64(lines.ended, 1);
     lines.held = 0;
@@ -118,8 +114,8 @@ fn with_line(mut lines: Lines, length: usize) -> Step
 
 // Reads a chunk on to the end of a line or to its own end.
 fn scan(mut lines: Lines, chunk: &[u8], line: &mut [u8]) -> Step
-    requires { ⌜ Inside lines × (lines .at < lines .count) × (lines .count ≡ length (now chunk)) × (4097 ≤ length (now line)) ⌝ }
-    ensures { λ r. ⌜ Inside (r .lines) × (r .length ≤ 4097) ⌝ }
+    requires { ⌜ Inside lines × (lines .at < lines .count) × (lines .count ≡ length (now chunk)) × (heldBytes ≤ length (now line)) ⌝ }
+    ensures { λ r. ⌜ Inside (r .lines) × (r .length ≤ heldBytes) ⌝ }
 {
     let part = gather(chunk, lines.at, line, lines.held);
     let held = part.held;
@@ -133,8 +129,8 @@ fn scan(mut lines: Lines, chunk: &[u8], line: &mut [u8]) -> Step
 
 // Reads the next chunk. At the end of the file a last line without LF counts.
 fn refill(fd: i32, mut lines: Lines, chunk: &mut [u8]) -> Step
-    requires { ⌜ Inside lines × (length (now chunk) ≡ 65536) ⌝ }
-    ensures { λ r. ⌜ Inside (r .lines) × (r .length ≤ 4097) ⌝ }
+    requires { ⌜ Inside lines × (length (now chunk) ≡ chunkBytes) ⌝ }
+    ensures { λ r. ⌜ Inside (r .lines) × (r .length ≤ heldBytes) ⌝ }
 {
     let input = stream::read(fd, chunk);
     lines.at = 0;
@@ -154,8 +150,8 @@ fn refill(fd: i32, mut lines: Lines, chunk: &mut [u8]) -> Step
 
 // One step: the next line of the chunk or, where the chunk is used up, a read. A line that has ended stands at the start of `line`.
 pub fn next(fd: i32, lines: Lines, chunk: &mut [u8], line: &mut [u8]) -> Step
-    requires { ⌜ Inside lines × (length (now chunk) ≡ 65536) × (length (now line) ≡ 4097) ⌝ }
-    ensures { λ r. ⌜ Inside (r .lines) × (r .length ≤ 4097) ⌝ }
+    requires { ⌜ Inside lines × (length (now chunk) ≡ chunkBytes) × (length (now line) ≡ heldBytes) ⌝ }
+    ensures { λ r. ⌜ Inside (r .lines) × (r .length ≤ heldBytes) ⌝ }
 {
     let n = lines.count;
     if lines.at < n {

@@ -1,8 +1,8 @@
 // A plant's files: sets a controller and a memory up by the console lines of a file, replays a trace on them, and tells each
 // record and its answer in words.
 use libc::STDERR_FILENO;
-use session::MEMORY_BYTES;
 use setup::fault::say_path;
+use words::sizes::MEMORY_BYTES;
 
 mod play;
 

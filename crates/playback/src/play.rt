@@ -4,17 +4,18 @@ ghost use mathlib.Core.Path.{_≡_};
 ghost use Prim.Native.Nat.{_≤_};
 ghost use lib.ListN.{length};
 ghost use Rattle.shell.specs.Ready.{Ready};
+ghost use Rattle.words.specs.Sizes.{memoryBytes};
 use replay::replay;
 use report::piece::PIECE_BYTES;
 use report::piece::ROOM_BYTES;
 use report::piece::put_piece;
 use report::summary::Tally;
 use report::summary::put_summary;
-use session::MEMORY_BYTES;
 use setup::fault::say_at;
 use shell::Shell;
 use stream::Input;
 use trace::RECORD_BYTES;
+use words::sizes::MEMORY_BYTES;
 
 // The records so far, whether more are left, and whether nothing has stopped it.
 struct Play {
@@ -26,7 +27,7 @@ struct Play {
 
 // Replays a piece on the memory that is lent.
 fn replayed(mut shell: Shell, memory: &mut [u8], trace: &[u8], answers: &mut [u8]) -> Shell
-    requires { ⌜ Ready shell × (1048576 ≤ length (now memory)) ⌝ }
+    requires { ⌜ Ready shell × (memoryBytes ≤ length (now memory)) ⌝ }
     ensures { λ r. ⌜ Ready r ⌝ }
 {
     let lent = shell.lent;
@@ -57,7 +58,7 @@ fn is_written(out: &[u8], n: usize, records: u64) -> bool
 
 // Replays a piece and tells its records.
 fn tell(s: Play, memory: &mut [u8], trace: &[u8], answers: &mut [u8], out: &mut [u8]) -> Play
-    requires { ⌜ Ready (s .shell) × (1048576 ≤ length (now memory)) × (length (now trace) ≤ 4096) ⌝ }
+    requires { ⌜ Ready (s .shell) × (memoryBytes ≤ length (now memory)) × (length (now trace) ≤ 4096) ⌝ }
     requires { ⌜ (4096 ≡ length (now answers)) × (65536 ≡ length (now out)) ⌝ }
     ensures { λ r. ⌜ Ready (r .shell) ⌝ }
 {
@@ -111,7 +112,7 @@ fn step(
     answers: &mut [u8],
     out: &mut [u8],
 ) -> Play
-    requires { ⌜ Ready (s .shell) × (1048576 ≤ length (now memory)) × (length (now trace) ≡ 4096) ⌝ }
+    requires { ⌜ Ready (s .shell) × (memoryBytes ≤ length (now memory)) × (length (now trace) ≡ 4096) ⌝ }
     requires { ⌜ (4096 ≡ length (now answers)) × (65536 ≡ length (now out)) ⌝ }
     ensures { λ r. ⌜ Ready (r .shell) ⌝ }
 {

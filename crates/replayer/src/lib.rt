@@ -1,8 +1,9 @@
 // The console's replay: the trace stands on a line.
 ghost use mathlib.Core.Path.{_≡_};
-ghost use Prim.Native.Nat.{_+_, _*_, _≤_};
+ghost use Prim.Native.Nat.{_+_, _*_, _<_, _≤_};
 ghost use lib.ListN.{length};
 ghost use Rattle.store.specs.Held.{Reached};
+ghost use Rattle.words.specs.Sizes.{answerBytes, lineBytes, traceBytes};
 use replay::Replayed;
 use stateless::text::Text;
 use stateless::text::bad;
@@ -11,14 +12,12 @@ use words::line::next_word;
 use words::print::put_hex;
 use words::print::put_next;
 use words::print::put_one;
+use words::sizes::TRACE_BYTES;
 
-// The most room for answer records. No line has a longer trace.
-const MOST_BYTES: usize = 2048;
-
-fn buffer() -> [u8; MOST_BYTES]
-    ensures { λ r. ⌜ 2048 ≡ length r ⌝ }
+fn buffer() -> [u8; TRACE_BYTES]
+    ensures { λ r. ⌜ traceBytes ≡ length r ⌝ }
 {
-    [0; MOST_BYTES]
+    [0; TRACE_BYTES]
 }
 
 // The refusal, and the number of answer records.
@@ -52,8 +51,8 @@ fn run(
     out: &mut [u8],
     at: usize,
 ) -> Text
-    requires { ⌜ Reached (now state) × (length (now room) ≤ 2048) × (at ≤ 4096) × (16384 ≤ length (now out)) ⌝ }
-    ensures { λ r. ⌜ Reached (now (state .exit)) × (r .end ≤ 16383) ⌝ }
+    requires { ⌜ Reached (now state) × (length (now room) ≤ traceBytes) × (at ≤ lineBytes) × (answerBytes ≤ length (now out)) ⌝ }
+    ensures { λ r. ⌜ Reached (now (state .exit)) × (r .end < answerBytes) ⌝ }
 {
     match replay::replay(state, memory, trace, room) {
         Replayed::Records(n) => {
@@ -82,11 +81,11 @@ pub fn replay(
     out: &mut [u8],
     to: usize,
 ) -> Text
-    requires { ⌜ Reached (now state) × (at ≤ length (now line)) × (length (now line) ≤ 4096) ⌝ }
-    requires { ⌜ (to ≤ 4096) × (16384 ≤ length (now out)) ⌝ }
-    ensures { λ r. ⌜ Reached (now (state .exit)) × (r .end ≤ 16383) ⌝ }
+    requires { ⌜ Reached (now state) × (at ≤ length (now line)) × (length (now line) ≤ lineBytes) ⌝ }
+    requires { ⌜ (to ≤ lineBytes) × (answerBytes ≤ length (now out)) ⌝ }
+    ensures { λ r. ⌜ Reached (now (state .exit)) × (r .end < answerBytes) ⌝ }
 {
-    if (MOST_BYTES as u64) < room {
+    if (TRACE_BYTES as u64) < room {
         return bad();
     }
     let mut trace = buffer();

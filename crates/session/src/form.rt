@@ -2,6 +2,7 @@
 ghost use mathlib.Core.Path.{_≡_};
 ghost use Prim.Native.Nat.{_+_, _≤_};
 ghost use lib.ListN.{length};
+ghost use Rattle.words.specs.Sizes.{outBytes};
 
 // An answer alone; beside what is wanted, the text behind the `#` of its line; or under its line, which is repeated.
 pub enum Form {
@@ -101,8 +102,8 @@ fn compare(line: &[u8], out: &mut [u8], at: usize, n: usize) -> usize
 
 // The place after an answer of n bytes, and after what is wanted beside it, where that is asked for.
 pub(super) fn put_wanted(form: Form, line: &[u8], out: &mut [u8], place: Place, n: usize) -> usize
-    requires { ⌜ (place .none ≤ place .answer) × (place .answer + n ≤ 65536) × (65536 ≡ length (now out)) ⌝ }
-    ensures { λ r. ⌜ r ≤ 65536 ⌝ }
+    requires { ⌜ (place .none ≤ place .answer) × (place .answer + n ≤ outBytes) × (outBytes ≡ length (now out)) ⌝ }
+    ensures { λ r. ⌜ r ≤ outBytes ⌝ }
 {
     if n == 0 {
         return place.none;

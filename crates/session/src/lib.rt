@@ -4,6 +4,7 @@ ghost use Prim.Native.Nat.{_+_, _≤_};
 ghost use lib.ListN.{length};
 ghost use Rattle.session.specs.Kept.{Kept};
 ghost use Rattle.shell.specs.Ready.{Ready};
+ghost use Rattle.words.specs.Sizes.{chunkBytes, heldBytes, memoryBytes, outBytes, roomBytes};
 use crate::form::Form;
 use crate::form::put_line;
 use crate::form::put_wanted;
@@ -13,14 +14,6 @@ use shell::Answered;
 use shell::Shell;
 
 pub mod form;
-
-pub const MEMORY_BYTES: usize = 1048576;
-
-// The room for answers.
-pub const OUT_BYTES: usize = 65536;
-
-// The room that an answer may need, 16,384 bytes, and its line before it, with the LF and the arrow between them.
-pub const ROOM_BYTES: usize = 20485;
 
 pub struct Session {
     pub shell: Shell,
@@ -52,8 +45,8 @@ pub fn first() -> Session
 
 // A step that ended a line of so many bytes, which is answered.
 fn with_line(s: Session, end: usize, length: usize, good: bool, refusal: u64) -> Step
-    requires { ⌜ Kept s × (end ≤ 65536) × (length ≤ 4097) ⌝ }
-    ensures { λ r. ⌜ Kept (r .session) × (r .end ≤ 65536) × (r .length ≤ 4097) ⌝ }
+    requires { ⌜ Kept s × (end ≤ outBytes) × (length ≤ heldBytes) ⌝ }
+    ensures { λ r. ⌜ Kept (r .session) × (r .end ≤ outBytes) × (r .length ≤ heldBytes) ⌝ }
 {
     Step {
         session: s,
@@ -67,8 +60,8 @@ fn with_line(s: Session, end: usize, length: usize, good: bool, refusal: u64) ->
 
 // A step that ends no line.
 fn without_line(s: Session, found: Found, at: usize) -> Step
-    requires { ⌜ Kept s × (at ≤ 65536) ⌝ }
-    ensures { λ r. ⌜ Kept (r .session) × (r .end ≤ 65536) × (r .length ≤ 4097) ⌝ }
+    requires { ⌜ Kept s × (at ≤ outBytes) ⌝ }
+    ensures { λ r. ⌜ Kept (r .session) × (r .end ≤ outBytes) × (r .length ≤ heldBytes) ⌝ }
 {
     Step {
         session: s,
@@ -91,9 +84,9 @@ fn put_answer(
     out: &mut [u8],
     at: usize,
 ) -> Answered
-    requires { ⌜ Ready shell × (at + 20485 ≤ 65536) × (length (now line) ≤ 4097) ⌝ }
-    requires { ⌜ (1048576 ≤ length (now memory)) × (65536 ≡ length (now out)) ⌝ }
-    ensures { λ r. ⌜ Ready (r .shell) × (r .length ≤ 65536) ⌝ }
+    requires { ⌜ Ready shell × (at + roomBytes ≤ outBytes) × (length (now line) ≤ heldBytes) ⌝ }
+    requires { ⌜ (memoryBytes ≤ length (now memory)) × (outBytes ≡ length (now out)) ⌝ }
+    ensures { λ r. ⌜ Ready (r .shell) × (r .length ≤ outBytes) ⌝ }
 {
     let place = put_line(form, line, out, at);
     let start = place.answer;
@@ -112,9 +105,9 @@ fn answer(
     out: &mut [u8],
     at: usize,
 ) -> Step
-    requires { ⌜ Kept s × (at + 20485 ≤ 65536) × (n ≤ 4097) × (4097 ≡ length (now line)) ⌝ }
-    requires { ⌜ (1048576 ≤ length (now memory)) × (65536 ≡ length (now out)) ⌝ }
-    ensures { λ r. ⌜ Kept (r .session) × (r .end ≤ 65536) × (r .length ≤ 4097) ⌝ }
+    requires { ⌜ Kept s × (at + roomBytes ≤ outBytes) × (n ≤ heldBytes) × (heldBytes ≡ length (now line)) ⌝ }
+    requires { ⌜ (memoryBytes ≤ length (now memory)) × (outBytes ≡ length (now out)) ⌝ }
+    ensures { λ r. ⌜ Kept (r .session) × (r .end ≤ outBytes) × (r .length ≤ heldBytes) ⌝ }
 {
     let lines = s.lines;
     let answered = put_answer(s.shell, lines.ended, form, memory, &line[..n], out, at);
@@ -134,9 +127,9 @@ pub fn next(
     out: &mut [u8],
     at: usize,
 ) -> Step
-    requires { ⌜ Kept s × (at + 20485 ≤ 65536) × (1048576 ≤ length (now memory)) × (65536 ≡ length (now out)) ⌝ }
-    requires { ⌜ (length (now chunk) ≡ 65536) × (length (now line) ≡ 4097) ⌝ }
-    ensures { λ r. ⌜ Kept (r .session) × (r .end ≤ 65536) × (r .length ≤ 4097) ⌝ }
+    requires { ⌜ Kept s × (at + roomBytes ≤ outBytes) × (memoryBytes ≤ length (now memory)) × (outBytes ≡ length (now out)) ⌝ }
+    requires { ⌜ (length (now chunk) ≡ chunkBytes) × (length (now line) ≡ heldBytes) ⌝ }
+    ensures { λ r. ⌜ Kept (r .session) × (r .end ≤ outBytes) × (r .length ≤ heldBytes) ⌝ }
 {
     let read = lines::next(fd, s.lines, chunk, line);
     let lines = read.lines;

@@ -4,17 +4,18 @@ ghost use Prim.Native.Nat.{_≤_};
 ghost use lib.ListN.{length};
 ghost use Rattle.session.specs.Kept.{Kept};
 ghost use Rattle.shell.specs.Ready.{Ready};
+ghost use Rattle.words.specs.Sizes.{chunkBytes, heldBytes, memoryBytes, outBytes};
 use crate::fault::say_at;
 use crate::line::put_refused_line;
 use libc::STDERR_FILENO;
-use lines::CHUNK_BYTES;
 use lines::Found;
-use lines::LINE_BYTES;
-use session::MEMORY_BYTES;
-use session::OUT_BYTES;
 use session::Session;
 use session::form::Form;
 use words::line::next_word;
+use words::sizes::CHUNK_BYTES;
+use words::sizes::HELD_BYTES;
+use words::sizes::MEMORY_BYTES;
+use words::sizes::OUT_BYTES;
 
 pub mod fault;
 mod line;
@@ -36,7 +37,7 @@ fn say_bad(number: u64) -> bool {
 
 // Prints a line that asked for a change which was refused, and answers whether it could.
 fn print_refused(line: &[u8], number: u64, refusal: u64, out: &mut [u8]) -> bool
-    requires { ⌜ (length (now line) ≤ 4097) × (65536 ≡ length (now out)) ⌝ }
+    requires { ⌜ (length (now line) ≤ heldBytes) × (outBytes ≡ length (now out)) ⌝ }
 {
     let word = next_word(line, 0);
     let start = word.start;
@@ -51,7 +52,7 @@ fn print_refused(line: &[u8], number: u64, refusal: u64, out: &mut [u8]) -> bool
 
 // Looks at how a line of n bytes was answered, and says whether the set-up goes on.
 fn judge(line: &[u8], n: usize, number: u64, good: bool, refusal: u64, out: &mut [u8]) -> bool
-    requires { ⌜ (n ≤ 4097) × (4097 ≡ length (now line)) × (65536 ≡ length (now out)) ⌝ }
+    requires { ⌜ (n ≤ heldBytes) × (heldBytes ≡ length (now line)) × (outBytes ≡ length (now out)) ⌝ }
 {
     if !good {
         return say_bad(number);
@@ -91,8 +92,8 @@ fn step(
     line: &mut [u8],
     out: &mut [u8],
 ) -> Setup
-    requires { ⌜ Kept (s .session) × (1048576 ≤ length (now memory)) × (65536 ≡ length (now out)) ⌝ }
-    requires { ⌜ (length (now chunk) ≡ 65536) × (length (now line) ≡ 4097) ⌝ }
+    requires { ⌜ Kept (s .session) × (memoryBytes ≤ length (now memory)) × (outBytes ≡ length (now out)) ⌝ }
+    requires { ⌜ (length (now chunk) ≡ chunkBytes) × (length (now line) ≡ heldBytes) ⌝ }
     ensures { λ r. ⌜ Kept (r .session) ⌝ }
 {
     let step = session::next(s.session, fd, Form::Alone, memory, chunk, line, out, 0);
@@ -116,7 +117,7 @@ fn turn(
     fd: i32,
     memory: &mut [u8; MEMORY_BYTES],
     chunk: &mut [u8; CHUNK_BYTES],
-    line: &mut [u8; LINE_BYTES],
+    line: &mut [u8; HELD_BYTES],
     out: &mut [u8; OUT_BYTES],
 ) -> Setup
     requires { ⌜ Kept (s .session) ⌝ }
@@ -142,7 +143,7 @@ pub fn run(fd: i32, memory: &mut [u8; MEMORY_BYTES]) -> Setup
     ensures { λ r. ⌜ Ready (r .session .shell) ⌝ }
 {
     let mut chunk = [0u8; CHUNK_BYTES];
-    let mut line = [0u8; LINE_BYTES];
+    let mut line = [0u8; HELD_BYTES];
     let mut out = [0u8; OUT_BYTES];
     let mut s = first();
     let mut turns = u64::MAX;

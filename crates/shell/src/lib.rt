@@ -1,7 +1,8 @@
 // The console: a line of its language is read, the call that it names is made, and the answer is written.
-ghost use Prim.Native.Nat.{_≤_};
+ghost use Prim.Native.Nat.{_<_, _≤_};
 ghost use lib.ListN.{length};
 ghost use Rattle.shell.specs.Ready.{Ready};
+ghost use Rattle.words.specs.Sizes.{answerBytes, lineBytes, memoryBytes};
 use crate::queue::call;
 use crate::queue::show;
 use replayer::replay;
@@ -18,13 +19,14 @@ use words::arguments::Arguments;
 use words::arguments::read;
 use words::command::Command;
 use words::command::named;
-use words::line::MOST_BYTES;
 use words::line::Word;
 use words::line::next_word;
 use words::print::put;
 use words::print::put_bad;
 use words::print::put_end;
 use words::print::put_numbers;
+use words::sizes::LINE_BYTES;
+use words::sizes::MEMORY_BYTES;
 
 mod queue;
 
@@ -56,8 +58,6 @@ struct Done {
 }
 
 impl Shell {
-    pub const MEMORY_BYTES: usize = 1048576;
-
     pub fn new() -> Shell
         ensures { λ r. ⌜ Ready r ⌝ }
     {
@@ -65,7 +65,7 @@ impl Shell {
         let controller = fresh.controller;
         Shell {
             controller: controller,
-            lent: Shell::MEMORY_BYTES,
+            lent: MEMORY_BYTES,
         }
     }
 
@@ -73,7 +73,7 @@ impl Shell {
         requires { ⌜ Ready self ⌝ }
         ensures { λ r. ⌜ Ready (r .shell) ⌝ }
     {
-        if (Shell::MEMORY_BYTES as u64) < bytes {
+        if (MEMORY_BYTES as u64) < bytes {
             return Ran {
                 shell: self,
                 reply: Reply::bad(),
@@ -109,8 +109,8 @@ impl Shell {
         out: &mut [u8],
         to: usize,
     ) -> Done
-        requires { ⌜ Ready self × (at ≤ length (now line)) × (length (now line) ≤ 4096) × (to ≤ 4096) × (16384 ≤ length (now out)) ⌝ }
-        ensures { λ r. ⌜ Ready (r .shell) × (r .text .end ≤ 16383) ⌝ }
+        requires { ⌜ Ready self × (at ≤ length (now line)) × (length (now line) ≤ lineBytes) × (to ≤ lineBytes) × (answerBytes ≤ length (now out)) ⌝ }
+        ensures { λ r. ⌜ Ready (r .shell) × (r .text .end < answerBytes) ⌝ }
     {
         let text = replay(&mut self.controller.words, memory, line, at, room, out, to);
         Done {
@@ -209,8 +209,8 @@ fn act(
     out: &mut [u8],
     to: usize,
 ) -> Done
-    requires { ⌜ Ready shell × (at ≤ length (now line)) × (length (now line) ≤ 4096) × (to ≤ 4096) × (16384 ≤ length (now out)) ⌝ }
-    ensures { λ r. ⌜ Ready (r .shell) × (r .text .end ≤ 16383) ⌝ }
+    requires { ⌜ Ready shell × (at ≤ length (now line)) × (length (now line) ≤ lineBytes) × (to ≤ lineBytes) × (answerBytes ≤ length (now out)) ⌝ }
+    ensures { λ r. ⌜ Ready (r .shell) × (r .text .end < answerBytes) ⌝ }
 {
     let numbers = a.numbers;
     match command {
@@ -241,8 +241,8 @@ fn act(
 }
 
 fn answer_bad(shell: Shell, number: u64, out: &mut [u8]) -> Answered
-    requires { ⌜ Ready shell × (16384 ≤ length (now out)) ⌝ }
-    ensures { λ r. ⌜ Ready (r .shell) × (r .length ≤ 16384) ⌝ }
+    requires { ⌜ Ready shell × (answerBytes ≤ length (now out)) ⌝ }
+    ensures { λ r. ⌜ Ready (r .shell) × (r .length ≤ answerBytes) ⌝ }
 {
     Answered {
         shell: shell,
@@ -254,8 +254,8 @@ fn answer_bad(shell: Shell, number: u64, out: &mut [u8]) -> Answered
 
 // Ends the answer, or makes it that of a bad line.
 fn close(done: Done, number: u64, out: &mut [u8]) -> Answered
-    requires { ⌜ Ready (done .shell) × (done .text .end ≤ 16383) × (16384 ≤ length (now out)) ⌝ }
-    ensures { λ r. ⌜ Ready (r .shell) × (r .length ≤ 16384) ⌝ }
+    requires { ⌜ Ready (done .shell) × (done .text .end < answerBytes) × (answerBytes ≤ length (now out)) ⌝ }
+    ensures { λ r. ⌜ Ready (r .shell) × (r .length ≤ answerBytes) ⌝ }
 {
     let shell = done.shell;
     let text = done.text;
@@ -279,9 +279,9 @@ fn obey(
     number: u64,
     out: &mut [u8],
 ) -> Answered
-    requires { ⌜ Ready shell × (1048576 ≤ length (now memory)) × (16384 ≤ length (now out)) ⌝ }
-    requires { ⌜ (word .start ≤ word .end) × (word .end ≤ length (now line)) × (length (now line) ≤ 4096) ⌝ }
-    ensures { λ r. ⌜ Ready (r .shell) × (r .length ≤ 16384) ⌝ }
+    requires { ⌜ Ready shell × (memoryBytes ≤ length (now memory)) × (answerBytes ≤ length (now out)) ⌝ }
+    requires { ⌜ (word .start ≤ word .end) × (word .end ≤ length (now line)) × (length (now line) ≤ lineBytes) ⌝ }
+    ensures { λ r. ⌜ Ready (r .shell) × (r .length ≤ answerBytes) ⌝ }
 {
     let start = word.start;
     let end = word.end;
@@ -298,10 +298,10 @@ fn obey(
 
 // The answer to a line, which is given without its LF and has a number, at the start of `out`.
 pub fn answer(shell: Shell, memory: &mut [u8], line: &[u8], number: u64, out: &mut [u8]) -> Answered
-    requires { ⌜ Ready shell × (1048576 ≤ length (now memory)) × (16384 ≤ length (now out)) ⌝ }
-    ensures { λ r. ⌜ Ready (r .shell) × (r .length ≤ 16384) ⌝ }
+    requires { ⌜ Ready shell × (memoryBytes ≤ length (now memory)) × (answerBytes ≤ length (now out)) ⌝ }
+    ensures { λ r. ⌜ Ready (r .shell) × (r .length ≤ answerBytes) ⌝ }
 {
-    if MOST_BYTES < line.len() {
+    if LINE_BYTES < line.len() {
         return answer_bad(shell, number, out);
     }
     let word = next_word(line, 0);

@@ -1,11 +1,13 @@
 // The commands whose answers are longer than 16 numbers.
 ghost use mathlib.Core.Path.{_≡_};
-ghost use Prim.Native.Nat.{_+_, _≤_};
+ghost use Prim.Native.Nat.{_+_, _*_, _<_, _≤_};
 ghost use lib.ListN.{length};
+ghost use Rattle.words.specs.Sizes.{answerBytes, lineBytes, numberBytes, pagesBytes, walkBytes};
 use prp::Walked;
 use words::print::put_hex;
 use words::print::put_next;
 use words::print::put_one;
+use words::sizes::WALK_BYTES;
 
 // Whether the line was good, the place after its answer, and the number by which a change of the controller or of an entry was
 // refused: 0 for none.
@@ -16,7 +18,7 @@ pub struct Text {
 }
 
 pub fn bad() -> Text
-    ensures { λ r. ⌜ r .end ≤ 16383 ⌝ }
+    ensures { λ r. ⌜ r .end < answerBytes ⌝ }
 {
     Text {
         good: false,
@@ -27,8 +29,8 @@ pub fn bad() -> Text
 
 // The bytes of a part of the memory.
 pub fn peek(memory: &[u8], a: [u64; 16], out: &mut [u8], at: usize) -> Text
-    requires { ⌜ (at ≤ 4096) × (16384 ≤ length (now out)) ⌝ }
-    ensures { λ r. ⌜ r .end ≤ 16383 ⌝ }
+    requires { ⌜ (at ≤ lineBytes) × (answerBytes ≤ length (now out)) ⌝ }
+    ensures { λ r. ⌜ r .end < answerBytes ⌝ }
 {
     let n = memory.len() as u64;
     let first = a[0];
@@ -59,25 +61,22 @@ pub fn peek(memory: &[u8], a: [u64; 16], out: &mut [u8], at: usize) -> Text
     }
 }
 
-// The room for addresses and for counts.
-const MOST_ROOM: usize = 65536;
-
-fn room() -> [u8; MOST_ROOM]
-    ensures { λ r. ⌜ 65536 ≡ length r ⌝ }
+fn room() -> [u8; WALK_BYTES]
+    ensures { λ r. ⌜ walkBytes ≡ length r ⌝ }
 {
-    [0; MOST_ROOM]
+    [0; WALK_BYTES]
 }
 
 // Each page's address and byte count. A transfer touches at most 257 pages.
 fn put_pages(
     out: &mut [u8],
     at: usize,
-    addresses: &[u8; MOST_ROOM],
-    counts: &[u8; MOST_ROOM],
+    addresses: &[u8; WALK_BYTES],
+    counts: &[u8; WALK_BYTES],
     pages: u64,
 ) -> usize
-    requires { ⌜ at + 10794 ≤ length (now out) ⌝ }
-    ensures { λ r. ⌜ r ≤ at + 10794 ⌝ }
+    requires { ⌜ at + pagesBytes ≤ length (now out) ⌝ }
+    ensures { λ r. ⌜ r ≤ at + pagesBytes ⌝ }
 {
     let mut to = at;
     let mut i: usize = 0;
@@ -90,8 +89,8 @@ fn put_pages(
 }
 
 fn put_walk(out: &mut [u8], at: usize, refusal: u64, pages: u64, reads: u64) -> usize
-    requires { ⌜ at + 63 ≤ length (now out) ⌝ }
-    ensures { λ r. ⌜ r ≤ at + 63 ⌝ }
+    requires { ⌜ at + 3 * numberBytes ≤ length (now out) ⌝ }
+    ensures { λ r. ⌜ r ≤ at + 3 * numberBytes ⌝ }
 {
     let first = put_next(out, at, refusal);
     let second = put_next(out, first, pages);
@@ -100,10 +99,10 @@ fn put_walk(out: &mut [u8], at: usize, refusal: u64, pages: u64, reads: u64) -> 
 
 // The page walk.
 pub fn walk(memory: &[u8], a: [u64; 16], out: &mut [u8], at: usize) -> Text
-    requires { ⌜ (at ≤ 4096) × (16384 ≤ length (now out)) ⌝ }
-    ensures { λ r. ⌜ r .end ≤ 16383 ⌝ }
+    requires { ⌜ (at ≤ lineBytes) × (answerBytes ≤ length (now out)) ⌝ }
+    ensures { λ r. ⌜ r .end < answerBytes ⌝ }
 {
-    let most = MOST_ROOM as u64;
+    let most = WALK_BYTES as u64;
     let address_room = a[4];
     let count_room = a[5];
     if most < address_room {

@@ -5,3 +5,4 @@ pub mod command;
 pub mod line;
 pub mod number;
 pub mod print;
+pub mod sizes;

@@ -1,9 +1,7 @@
 // The words of a line.
 ghost use Prim.Native.Nat.{_≤_};
 ghost use lib.ListN.{length};
-
-// The longest line, without its LF.
-pub const MOST_BYTES: usize = 4096;
+use crate::sizes::LINE_BYTES;
 
 // Where a word stands in a line; it is empty where there is no word left.
 pub struct Word {
@@ -62,7 +60,7 @@ pub fn without_cr(line: &[u8], n: usize) -> usize
     if n == 0 {
         return 0;
     }
-    if MOST_BYTES < n {
+    if LINE_BYTES < n {
         return n;
     }
     if line[n - 1] == b'\r' { n - 1 } else { n }

@@ -3,11 +3,12 @@ use borrow.Author.Needs.{needs}
 use Prim.Native.Nat.{_≤_, _-_}
 use lib.ListN.{length}
 use mathlib.Core.Path.{_≡_}
+use Rattle.words.specs.Sizes.{heldBytes}
 use Rattle.lines.proofs.gather.Statement.{statement}
 use Rattle.lines.proofs.gather.Tie as tie
 
 abbrev Inv-loop : tie.InvT-loop
-Inv-loop chunk at line₀ held i₀ n₀ line i n = (at ≤ i) × (i ≤ length chunk) × (n ≤ 4097) × (length line ≡ length line₀)
+Inv-loop chunk at line₀ held i₀ n₀ line i n = (at ≤ i) × (i ≤ length chunk) × (n ≤ heldBytes) × (length line ≡ length line₀)
 
 abbrev μ-loop : tie.MeasureT-loop
 μ-loop chunk at line₀ held i₀ n₀ line i n = length chunk - i
