@@ -540,50 +540,50 @@ static const struct {
     {"good", 1, {.opc = 2, .cid = 1}, {0}, false, 1, 0},
     {"good, any opcode and fields", 1, {.opc = 0xFF, .cid = 0xFFFF, .nsid = 9, .others = TOP}, {0}, false, 1, 0},
     {"Admin", 0, {.opc = 2, .cid = 7}, {0}, false, 1, 0},
-    {"Admin, FUSE 1", 0, {FIRST}, {0}, false, 1, 0x02},
-    {"Admin, FUSE 2", 0, {SECOND}, {0}, false, 1, 0x02},
-    {"Admin, FUSE 3", 0, {.fuse = 3}, {0}, false, 1, 0x02},
-    {"Admin, a pair is taken apart", 0, {FIRST}, {SECOND}, true, 1, 0x02},
-    {"Admin, PSDT 1", 0, {.psdt = 1}, {0}, false, 1, 0x02},
-    {"FUSE 3", 1, {.fuse = 3, .cid = 1}, {0}, false, 1, 0x02},
-    {"FUSE 3 with a follower", 1, {.fuse = 3, .cid = 1}, {SECOND}, true, 1, 0x02},
-    {"FUSE 2", 1, {SECOND}, {0}, false, 1, 0x0A},
-    {"FUSE 2 before FUSE 1", 1, {SECOND}, {FIRST}, true, 1, 0x0A},
-    {"FUSE 1 alone", 1, {FIRST}, {0}, false, 1, 0x0A},
-    {"FUSE 1, its follower not submitted", 1, {FIRST}, {SECOND}, false, 1, 0x0A},
-    {"FUSE 1, 0", 1, {FIRST}, {.opc = 1, .cid = 2}, true, 1, 0x0A},
-    {"FUSE 1, 1", 1, {FIRST}, {FIRST}, true, 1, 0x0A},
-    {"FUSE 1, 3", 1, {FIRST}, {.fuse = 3}, true, 1, 0x0A},
-    {"PSDT 1", 1, {.psdt = 1, .cid = 1}, {0}, false, 1, 0x02},
-    {"PSDT 2", 1, {.psdt = 2, .cid = 1}, {0}, false, 1, 0x02},
-    {"PSDT 3", 1, {.psdt = 3, .cid = 1}, {0}, false, 1, 0x02},
-    {"CID in use", 1, {.opc = 2, .cid = 7}, {0}, false, 1, 0x03},
-    {"CID in use by a command with a verdict", 1, {.opc = 2, .cid = 8}, {0}, false, 1, 0x03},
+    {"Admin, FUSE 1", 0, {FIRST}, {0}, false, 1, INVALID_FIELD},
+    {"Admin, FUSE 2", 0, {SECOND}, {0}, false, 1, INVALID_FIELD},
+    {"Admin, FUSE 3", 0, {.fuse = 3}, {0}, false, 1, INVALID_FIELD},
+    {"Admin, a pair is taken apart", 0, {FIRST}, {SECOND}, true, 1, INVALID_FIELD},
+    {"Admin, PSDT 1", 0, {.psdt = 1}, {0}, false, 1, INVALID_FIELD},
+    {"FUSE 3", 1, {.fuse = 3, .cid = 1}, {0}, false, 1, INVALID_FIELD},
+    {"FUSE 3 with a follower", 1, {.fuse = 3, .cid = 1}, {SECOND}, true, 1, INVALID_FIELD},
+    {"FUSE 2", 1, {SECOND}, {0}, false, 1, MISSING_FUSED},
+    {"FUSE 2 before FUSE 1", 1, {SECOND}, {FIRST}, true, 1, MISSING_FUSED},
+    {"FUSE 1 alone", 1, {FIRST}, {0}, false, 1, MISSING_FUSED},
+    {"FUSE 1, its follower not submitted", 1, {FIRST}, {SECOND}, false, 1, MISSING_FUSED},
+    {"FUSE 1, 0", 1, {FIRST}, {.opc = 1, .cid = 2}, true, 1, MISSING_FUSED},
+    {"FUSE 1, 1", 1, {FIRST}, {FIRST}, true, 1, MISSING_FUSED},
+    {"FUSE 1, 3", 1, {FIRST}, {.fuse = 3}, true, 1, MISSING_FUSED},
+    {"PSDT 1", 1, {.psdt = 1, .cid = 1}, {0}, false, 1, INVALID_FIELD},
+    {"PSDT 2", 1, {.psdt = 2, .cid = 1}, {0}, false, 1, INVALID_FIELD},
+    {"PSDT 3", 1, {.psdt = 3, .cid = 1}, {0}, false, 1, INVALID_FIELD},
+    {"CID in use", 1, {.opc = 2, .cid = 7}, {0}, false, 1, ID_CONFLICT},
+    {"CID in use by a command with a verdict", 1, {.opc = 2, .cid = 8}, {0}, false, 1, ID_CONFLICT},
     {"CID in use on another SQ", 1, {.opc = 2, .cid = 9}, {0}, false, 1, 0},
     {"CID, upper byte alike", 1, {.opc = 2, .cid = 0x107}, {0}, false, 1, 0},
-    {"0Ah before 02h for PSDT", 1, {.fuse = 2, .psdt = 1, .cid = 7}, {0}, false, 1, 0x0A},
-    {"02h for FUSE before 03h", 1, {.fuse = 3, .cid = 7}, {0}, false, 1, 0x02},
-    {"02h for PSDT before 03h", 1, {.psdt = 3, .cid = 7}, {0}, false, 1, 0x02},
+    {"0Ah before 02h for PSDT", 1, {.fuse = 2, .psdt = 1, .cid = 7}, {0}, false, 1, MISSING_FUSED},
+    {"02h for FUSE before 03h", 1, {.fuse = 3, .cid = 7}, {0}, false, 1, INVALID_FIELD},
+    {"02h for PSDT before 03h", 1, {.psdt = 3, .cid = 7}, {0}, false, 1, INVALID_FIELD},
     {"pair", 1, {FIRST}, {SECOND}, true, 2, 0},
     {"pair, other fields differ", 1, {5, 1, 0, 1, 4, 5, 6, TOP}, {SECOND}, true, 2, 0},
-    {"pair, first opcode", 1, {1, 1, 0, 1, 4, 5, 6, 0}, {SECOND}, true, 2, 0x02},
-    {"pair, second opcode", 1, {FIRST}, {5, 2, 0, 2, 4, 5, 6, 0}, true, 2, 0x02},
-    {"pair, second opcode 81h", 1, {FIRST}, {0x81, 2, 0, 2, 4, 5, 6, 0}, true, 2, 0x02},
-    {"pair, NSID", 1, {5, 1, 0, 1, 3, 5, 6, 0}, {SECOND}, true, 2, 0x02},
-    {"pair, NSID, highest bit", 1, {5, 1, 0, 1, HIGH_BIT(31) + 4, 5, 6, 0}, {SECOND}, true, 2, 0x02},
-    {"pair, SLBA", 1, {FIRST}, {1, 2, 0, 2, 4, 4, 6, 0}, true, 2, 0x02},
-    {"pair, SLBA, bit 32", 1, {FIRST}, {1, 2, 0, 2, 4, HIGH_BIT(32) + 5, 6, 0}, true, 2, 0x02},
-    {"pair, SLBA, highest bit", 1, {FIRST}, {1, 2, 0, 2, 4, HIGH_BIT(63) + 5, 6, 0}, true, 2, 0x02},
-    {"pair, NLB", 1, {FIRST}, {1, 2, 0, 2, 4, 5, 7, 0}, true, 2, 0x02},
-    {"pair, NLB, highest bit", 1, {5, 1, 0, 1, 4, 5, HIGH_BIT(15) + 6, 0}, {SECOND}, true, 2, 0x02},
-    {"pair, first PSDT", 1, {5, 1, 1, 1, 4, 5, 6, 0}, {SECOND}, true, 2, 0x02},
-    {"pair, second PSDT", 1, {FIRST}, {1, 2, 2, 2, 4, 5, 6, 0}, true, 2, 0x02},
-    {"pair, both CIDs equal", 1, {5, 1, 0, 2, 4, 5, 6, 0}, {SECOND}, true, 2, 0x03},
-    {"pair, first CID in use", 1, {5, 1, 0, 7, 4, 5, 6, 0}, {SECOND}, true, 2, 0x03},
-    {"pair, second CID in use", 1, {FIRST}, {1, 2, 0, 8, 4, 5, 6, 0}, true, 2, 0x03},
+    {"pair, first opcode", 1, {1, 1, 0, 1, 4, 5, 6, 0}, {SECOND}, true, 2, INVALID_FIELD},
+    {"pair, second opcode", 1, {FIRST}, {5, 2, 0, 2, 4, 5, 6, 0}, true, 2, INVALID_FIELD},
+    {"pair, second opcode 81h", 1, {FIRST}, {0x81, 2, 0, 2, 4, 5, 6, 0}, true, 2, INVALID_FIELD},
+    {"pair, NSID", 1, {5, 1, 0, 1, 3, 5, 6, 0}, {SECOND}, true, 2, INVALID_FIELD},
+    {"pair, NSID, highest bit", 1, {5, 1, 0, 1, HIGH_BIT(31) + 4, 5, 6, 0}, {SECOND}, true, 2, INVALID_FIELD},
+    {"pair, SLBA", 1, {FIRST}, {1, 2, 0, 2, 4, 4, 6, 0}, true, 2, INVALID_FIELD},
+    {"pair, SLBA, bit 32", 1, {FIRST}, {1, 2, 0, 2, 4, HIGH_BIT(32) + 5, 6, 0}, true, 2, INVALID_FIELD},
+    {"pair, SLBA, highest bit", 1, {FIRST}, {1, 2, 0, 2, 4, HIGH_BIT(63) + 5, 6, 0}, true, 2, INVALID_FIELD},
+    {"pair, NLB", 1, {FIRST}, {1, 2, 0, 2, 4, 5, 7, 0}, true, 2, INVALID_FIELD},
+    {"pair, NLB, highest bit", 1, {5, 1, 0, 1, 4, 5, HIGH_BIT(15) + 6, 0}, {SECOND}, true, 2, INVALID_FIELD},
+    {"pair, first PSDT", 1, {5, 1, 1, 1, 4, 5, 6, 0}, {SECOND}, true, 2, INVALID_FIELD},
+    {"pair, second PSDT", 1, {FIRST}, {1, 2, 2, 2, 4, 5, 6, 0}, true, 2, INVALID_FIELD},
+    {"pair, both CIDs equal", 1, {5, 1, 0, 2, 4, 5, 6, 0}, {SECOND}, true, 2, ID_CONFLICT},
+    {"pair, first CID in use", 1, {5, 1, 0, 7, 4, 5, 6, 0}, {SECOND}, true, 2, ID_CONFLICT},
+    {"pair, second CID in use", 1, {FIRST}, {1, 2, 0, 8, 4, 5, 6, 0}, true, 2, ID_CONFLICT},
     {"pair, CID in use on another SQ", 1, {5, 1, 0, 9, 4, 5, 6, 0}, {SECOND}, true, 2, 0},
-    {"pair, 02h before 03h", 1, {5, 1, 1, 7, 4, 5, 6, 0}, {SECOND}, true, 2, 0x02},
-    {"pair, 02h for the opcode before 03h", 1, {5, 1, 0, 2, 4, 5, 6, 0}, {0, 2, 0, 2, 4, 5, 6, 0}, true, 2, 0x02},
+    {"pair, 02h before 03h", 1, {5, 1, 1, 7, 4, 5, 6, 0}, {SECOND}, true, 2, INVALID_FIELD},
+    {"pair, 02h for the opcode before 03h", 1, {5, 1, 0, 2, 4, 5, 6, 0}, {0, 2, 0, 2, 4, 5, 6, 0}, true, 2, INVALID_FIELD},
 };
 
 /* Starts and finishes `count` commands on SQs 0 and 1 of 8 entries, but for those that stay outstanding. */
@@ -632,7 +632,7 @@ static void verdict_case(size_t i, uint64_t slot)
     uint64_t cq = id != 0, at = plain.cqs[cq].tail;
     uint16_t head = (uint16_t)((slot + count) % 8);
     uint16_t status = (uint16_t)(verdict != 0 ? verdict : 0x1234);
-    uint16_t failed_fused = (uint16_t)(verdict != 0 ? verdict : 9);
+    uint16_t failed_fused = (uint16_t)(verdict != 0 ? verdict : FAILED_FUSED);
     want_finish(what, M, first, 0x1234, at, number);
     want_posted(what, cq, at,
                 (struct bellrafter_completion){0, 0xDDCCBBAA, head, (uint16_t)id,
@@ -668,7 +668,7 @@ static void pair_cases(void)
     submit(1, (struct submitted){5, 1, 0, 10, 4, 5, 6, 0});
     submit(1, (struct submitted){FIRST});
     submit(1, (struct submitted){SECOND});
-    want_start("FUSE 1, 1, 2: the first alone", (struct bellrafter_start){0, 1, 1, 0, 0, 0, 0x0A, 0}, M);
+    want_start("FUSE 1, 1, 2: the first alone", (struct bellrafter_start){0, 1, 1, 0, 0, 0, MISSING_FUSED, 0}, M);
     want_start("FUSE 1, 1, 2: then a pair", (struct bellrafter_start){0, 1, 2, 1, 2, 1, 0, 1}, M);
     want_finish("the single one", M, 0, 0, 0, 0);
 
@@ -683,7 +683,7 @@ static void pair_cases(void)
     want_finish("second half whose first half's tag is in use", M, 2, 6, 2, 2);
     want_posted("its own status", 1, 2, (struct bellrafter_completion){0, 0xDDCCBBAA, 6, 1, 2, 6, 1});
     want_finish("first half of the newer pair fails", M, 1, 0x7FFF, 3, 4);
-    expect("second half is told", of_command((struct bellrafter_command){0, 1, 22, 9, 5}),
+    expect("second half is told", of_command((struct bellrafter_command){0, 1, 22, FAILED_FUSED, 5}),
            of_command(ref_look_command(&plain, 3)));
     look_at_all();
     submit_plain(1, 30);
@@ -693,7 +693,7 @@ static void pair_cases(void)
                 (struct bellrafter_completion){0, 0xDDCCBBAA, 7, 1, 30, 0, 1});
     want_finish("second half", M, 3, 0, 5, 5);
     want_posted("second half of a failed first half", 1, 5,
-                (struct bellrafter_completion){0, 0xDDCCBBAA, 7, 1, 22, 9, 1});
+                (struct bellrafter_completion){0, 0xDDCCBBAA, 7, 1, 22, FAILED_FUSED, 1});
 
     /* Two tail writes, one pair, over the wrap. */
     submit(1, (struct submitted){FIRST});
@@ -706,11 +706,11 @@ static void pair_cases(void)
     /* A pair with a verdict has the order of its halves too. */
     submit(1, (struct submitted){5, 1, 1, 1, 4, 5, 6, 0});
     submit(1, (struct submitted){SECOND});
-    want_start("bad pair", (struct bellrafter_start){0, 1, 2, 1, 2, 1, 0x02, 9}, M);
+    want_start("bad pair", (struct bellrafter_start){0, 1, 2, 1, 2, 1, INVALID_FIELD, 9}, M);
     refused_finish("bad pair, second half first", M, 2, 0, BELLRAFTER_FIRST_HALF);
     want_finish("bad pair, first half", M, 1, 0, 8, 9);
     want_finish("bad pair, second half", M, 2, 0, 9, 10);
-    want_posted("bad pair's verdict stays", 1, 9, (struct bellrafter_completion){0, 0xDDCCBBAA, 3, 1, 2, 2, 1});
+    want_posted("bad pair's verdict stays", 1, 9, (struct bellrafter_completion){0, 0xDDCCBBAA, 3, 1, 2, INVALID_FIELD, 1});
     look_at_all();
 }
 
@@ -754,11 +754,11 @@ static void number_cases(void)
     want_command("a pair's first half", 1, (struct bellrafter_command){0, 2, 20, 0, 1});
     want_command("a pair's second half", 2, (struct bellrafter_command){0, 2, 21, 0, 2});
     want_start("number 3, on another SQ", (struct bellrafter_start){0, 1, 1, 3, 0, 1, 0, 3}, M);
-    want_start("number 4, with a verdict", (struct bellrafter_start){0, 1, 1, 4, 0, 2, 0x02, 4}, M);
+    want_start("number 4, with a verdict", (struct bellrafter_start){0, 1, 1, 4, 0, 2, INVALID_FIELD, 4}, M);
     submit(2, (struct submitted){5, 1, 1, 22, 4, 5, 6, 0});
     submit(2, (struct submitted){1, 2, 0, 23, 4, 5, 6, 0});
-    want_start("a bad pair takes 5 and 6", (struct bellrafter_start){0, 2, 2, 5, 6, 2, 0x02, 5}, M);
-    want_command("a bad pair's second half", 6, (struct bellrafter_command){0, 2, 23, 0x02, 6});
+    want_start("a bad pair takes 5 and 6", (struct bellrafter_start){0, 2, 2, 5, 6, 2, INVALID_FIELD, 5}, M);
+    want_command("a bad pair's second half", 6, (struct bellrafter_command){0, 2, 23, INVALID_FIELD, 6});
 
     /* In another order than the starts; refusals between have no number. */
     want_finish("number 4 first", M, 4, 0, 0, 4);
@@ -860,7 +860,7 @@ static void same_calls(uint64_t number)
     submit(1, (struct submitted){.psdt = 2, .cid = 103});
     want_start("same calls", (struct bellrafter_start){0, 1, 1, 0, 0, 0, 0, number}, M);
     want_start("same calls", (struct bellrafter_start){0, 1, 2, 1, 2, 1, 0, number + 1}, M);
-    want_start("same calls", (struct bellrafter_start){0, 1, 1, 3, 0, 3, 0x02, number + 3}, M);
+    want_start("same calls", (struct bellrafter_start){0, 1, 1, 3, 0, 3, INVALID_FIELD, number + 3}, M);
     want_finish("same calls", M, 3, 0, 0, number + 3);
     want_finish("same calls", M, 1, 7, 1, number + 1);
     want_finish("same calls", M, 2, 0, 2, number + 2);

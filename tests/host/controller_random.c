@@ -337,12 +337,12 @@ static void note_taken(struct bellrafter_start s, const struct ref_controller *w
         others += was->sqs[i].exists && !was->sqs[i].marked && was->sqs[i].head != was->sqs[i].tail;
     happens(ONE, one);
     happens(ONE_ADMIN_FUSED, one && s.sq == 0 && fuse != 0);
-    happens(ONE_02, one && s.verdict == 0x02);
-    happens(ONE_03, one && s.verdict == 0x03);
-    happens(ONE_0A, one && s.verdict == 0x0A);
+    happens(ONE_02, one && s.verdict == BELLRAFTER_STATUS_INVALID_FIELD);
+    happens(ONE_03, one && s.verdict == BELLRAFTER_STATUS_ID_CONFLICT);
+    happens(ONE_0A, one && s.verdict == BELLRAFTER_STATUS_MISSING_FUSED);
     happens(PAIR, !one && s.verdict == 0);
-    happens(PAIR_02, !one && s.verdict == 0x02);
-    happens(PAIR_03, !one && s.verdict == 0x03);
+    happens(PAIR_02, !one && s.verdict == BELLRAFTER_STATUS_INVALID_FIELD);
+    happens(PAIR_03, !one && s.verdict == BELLRAFTER_STATUS_ID_CONFLICT);
     happens(PAIR_WRAPS, !one && s.slot == sq->size - 1);
     happens(HEAD_WRAPS, sq->head < s.slot);
     happens(ADMIN_FIRST, plain.mechanism == 1 && s.sq == 0 && others > 0);
@@ -388,8 +388,8 @@ static void note_posted(const struct ref_command *command, const struct ref_cq *
     happens(POSTED_1, was->phase == 1);
     happens(CQ_WRAPS, was->tail == was->size - 1);
     happens(POSTED_GIVEN, command->verdict == 0 && status != 0);
-    happens(POSTED_VERDICT, command->verdict != 0 && command->verdict != 9);
-    happens(POSTED_09, command->verdict == 9);
+    happens(POSTED_VERDICT, command->verdict != 0 && command->verdict != BELLRAFTER_STATUS_FAILED_FUSED);
+    happens(POSTED_09, command->verdict == BELLRAFTER_STATUS_FAILED_FUSED);
     happens(TAG_REUSED, command->second_half && plain.commands[first_tag].outstanding);
     happens(OUT_OF_ORDER, older_outstanding(command->number));
     happens(NUMBER_ABOVE_TAGS, command->number > 63);

@@ -155,7 +155,7 @@ static void busy_cases(void)
     submit_plain(1, 5);
     submit_plain(2, 1);
     want_start("a pair", (struct bellrafter_start){0, 1, 2, 0, 1, 0, 0, 0}, M);
-    want_start("with a verdict", (struct bellrafter_start){0, 1, 1, 2, 0, 2, 0x02, 2}, M);
+    want_start("with a verdict", (struct bellrafter_start){0, 1, 1, 2, 0, 2, INVALID_FIELD, 2}, M);
     want_start("a good one", (struct bellrafter_start){0, 1, 1, 3, 0, 3, 0, 3}, M);
     want("marking", BELLRAFTER_DOORBELL, twin_tail(1, 8));
     want_start("of another SQ", (struct bellrafter_start){0, 2, 1, 4, 0, 0, 0, 4}, M);

@@ -11,6 +11,14 @@
 
 enum { M = MEMORY };
 
+/* The verdicts, and the status of a second half whose first half failed. */
+enum {
+    INVALID_FIELD = BELLRAFTER_STATUS_INVALID_FIELD,
+    ID_CONFLICT = BELLRAFTER_STATUS_ID_CONFLICT,
+    FAILED_FUSED = BELLRAFTER_STATUS_FAILED_FUSED,
+    MISSING_FUSED = BELLRAFTER_STATUS_MISSING_FUSED
+};
+
 void want(const char *what, uint64_t wanted, uint64_t came);
 void want_start(const char *what, struct bellrafter_start wanted, size_t lent);
 void refused_start(const char *what, size_t lent, uint64_t refusal);
