@@ -1,6 +1,7 @@
 //! Trials of document 02's fifth request, "Delete and create again": what stops a deletion, and
 //! what does not. The expected answers were written by hand.
 
+use crate::model::INVALID_FIELD;
 use crate::traced::{Named, Trial};
 
 /// Numbers above 15, most of them with 0 or 1 in their low bits.
@@ -110,7 +111,8 @@ fn halves_and_marks(t: &mut Trial) {
     // Tag 0 is another's now, and the second half is left.
     t.play("tail 2 1 => tail 0\n start => start 0 2 1 0 0 0 0 2");
     t.refuses_deletion("delete-sq 1", 33);
-    t.play("start => start 0 1 1 2 0 2 2 3\n finish 1 0 0 => finish 0 1 1");
+    t.expect("start", &format!("start 0 1 1 2 0 2 {INVALID_FIELD} 3"));
+    t.expect("finish 1 0 0", "finish 0 1 1");
     t.refuses_deletion("delete-sq 1", 33);
     t.expect("tail 1 8", "tail 10");
     t.refuses_deletion("delete-sq 1", 33);

@@ -2,6 +2,7 @@
 //! refused with 32, after 13 in the order." No script reaches it, so the next number is set in the
 //! controller.
 
+use crate::model::{INVALID_FIELD, MISSING_FUSED};
 use crate::traced::{Named, Trial};
 use crate::traced_numbers::Entry;
 
@@ -70,7 +71,7 @@ fn singles(t: &mut Trial) {
 
 /// A pair needs two, "in order", whatever its verdict.
 fn pairs(t: &mut Trial) {
-    for (entries, verdict) in [(PAIR, 0), (PAIR_WITH_A_VERDICT, 2)] {
+    for (entries, verdict) in [(PAIR, 0), (PAIR_WITH_A_VERDICT, INVALID_FIELD)] {
         for number in [LAST - 2, LAST - 1] {
             t.submitted(&entries, number);
             t.expect("start", &format!("start 0 1 2 0 1 0 {verdict} {number}"));
@@ -100,12 +101,12 @@ fn pairs(t: &mut Trial) {
 /// Halves that are taken alone need one number each: without a follower, and on SQ 0.
 fn lone_halves(t: &mut Trial) {
     t.submitted(&PAIR[..1], LAST);
-    t.expect("start", "start 0 1 1 0 0 0 10 18446744073709551614");
+    t.expect("start", &format!("start 0 1 1 0 0 0 {MISSING_FUSED} {LAST}"));
     t.submitted(&[], LAST);
     t.play("create-cq 0 4 16384 => create-cq 0\n create-sq 0 4 20480 0 0 => create-sq 0");
     t.write_entries(20480, &PAIR);
     t.expect("tail 0 2", "tail 0");
-    t.expect("start", "start 0 0 1 0 0 0 2 18446744073709551614");
+    t.expect("start", &format!("start 0 0 1 0 0 0 {INVALID_FIELD} {LAST}"));
     t.refuses(32);
 }
 

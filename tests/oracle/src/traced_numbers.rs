@@ -1,6 +1,7 @@
 //! Trials of document 02's fourth request, "Numbering each start", as far as a script reaches its
 //! rules. The expected answers were written by hand.
 
+use crate::model::INVALID_FIELD;
 use crate::traced::{Named, Trial};
 
 /// What the trials tell entries apart by: OPC, FUSE and CID.
@@ -24,19 +25,21 @@ fn singles_and_pairs(t: &mut Trial) {
     let single = |cid: u64| (2, 0, cid);
     t.write_entries(4096, &[single(10), (5, 1, 11), (1, 2, 12), single(13)]);
     t.write_entries(4352, &[(5, 1, 14), (2, 2, 15), single(16), single(17)]);
-    t.play(
+    t.play(&format!(
         "tail 1 7 => tail 0
          start => start 0 1 1 0 0 0 0 0
          start => start 0 1 2 1 2 1 0 1
          start => start 0 1 1 3 0 3 0 3
-         start => start 0 1 2 4 5 4 2 4
+         start => start 0 1 2 4 5 4 {INVALID_FIELD} 4
          start => start 0 1 1 6 0 6 0 6
-         show-tag 0 => show-tag 1 1 10 0 0
+         show-tag 4 => show-tag 1 1 14 {INVALID_FIELD} 4
+         show-tag 5 => show-tag 1 1 15 {INVALID_FIELD} 5"
+    ));
+    t.play(
+        "show-tag 0 => show-tag 1 1 10 0 0
          show-tag 1 => show-tag 1 1 11 0 1
          show-tag 2 => show-tag 1 1 12 0 2
          show-tag 3 => show-tag 1 1 13 0 3
-         show-tag 4 => show-tag 1 1 14 2 4
-         show-tag 5 => show-tag 1 1 15 2 5
          show-tag 6 => show-tag 1 1 16 0 6
          show-tag 7 => show-tag 0 0 0 0 0
          finish 6 0 0 => finish 0 0 6
