@@ -36,7 +36,7 @@ static inline uint64_t number_of_finish(struct bellrafter_finish f)
 }
 
 /* Starts n times; after each start come so many finishes, of the tags up to the last one in turn. */
-static void trips(uint64_t n, uint64_t finishes, uint64_t last_tag)
+static void start_and_finish(uint64_t n, uint64_t finishes, uint64_t last_tag)
 {
     uint64_t digest = at.digest, unwanted = at.unwanted, tag = at.tag;
 
@@ -111,12 +111,12 @@ static void stagger(void)
 {
     for (uint64_t id = 1; id < QUEUES; id++)
         hear(call_tail(id, first_head(id)));
-    trips(STAGGER * QUEUES * (QUEUES - 1) / 2, 1, 0);
+    start_and_finish(STAGGER * QUEUES * (QUEUES - 1) / 2, 1, 0);
     for (uint64_t id = 1; id < QUEUES; id++)
         hear(call_head(id, first_head(id)));
     for (uint64_t id = 0; id < QUEUES; id++)
         hear(call_tail(id, first_tail(id)));
-    trips(QUEUES * (LONG - 1), 1, 0);
+    start_and_finish(QUEUES * (LONG - 1), 1, 0);
 }
 
 static struct heard heard(void)
@@ -142,7 +142,7 @@ static struct heard prepare(const struct plan *plan)
         stagger();
     } else if (plan->outstanding > 0) {
         submit(1, plan->outstanding);
-        trips(plan->outstanding, 0, 0);
+        start_and_finish(plan->outstanding, 0, 0);
     }
     call_save();
     return heard();
@@ -169,9 +169,9 @@ static void commands(const struct plan *plan)
 {
     submit(plan->busy, SUBMITTED);
     if (plan->kind == PAIRS)
-        trips(SUBMITTED * plan->busy / 2, 2, plan->outstanding + 1);
+        start_and_finish(SUBMITTED * plan->busy / 2, 2, plan->outstanding + 1);
     else
-        trips(SUBMITTED * plan->busy, 1, plan->outstanding);
+        start_and_finish(SUBMITTED * plan->busy, 1, plan->outstanding);
     release(plan->busy, SUBMITTED);
 }
 

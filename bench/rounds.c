@@ -107,7 +107,7 @@ static void mix_started(struct run *run, unsigned refusal, const struct started 
     mix(run, refusal ? refusal : 65536u * s->verdict + 1024u * s->slot + 16u * s->first + s->second + s->sq);
 }
 
-static void trips(struct run *run, uint64_t n, uint64_t finishes, uint64_t last_tag)
+static void start_and_finish(struct run *run, uint64_t n, uint64_t finishes, uint64_t last_tag)
 {
     for (uint64_t i = 0; i < n; i++) {
         struct started s = {0};
@@ -147,9 +147,9 @@ static void batch(struct run *run, const struct plan *p)
     }
     submit(run, p->busy, SUBMITTED);
     if (p->kind == PAIRS)
-        trips(run, n / 2, 2, p->outstanding + 1);
+        start_and_finish(run, n / 2, 2, p->outstanding + 1);
     else
-        trips(run, n, 1, p->outstanding);
+        start_and_finish(run, n, 1, p->outstanding);
     release(run, p->busy, SUBMITTED);
 }
 
@@ -163,7 +163,7 @@ int main(void)
     create_queues(&run, p.mechanism, p.kind == PAIRS);
     if (p.outstanding > 0) {
         submit(&run, 1, p.outstanding);
-        trips(&run, p.outstanding, 0, 0);
+        start_and_finish(&run, p.outstanding, 0, 0);
     }
     for (uint64_t i = 0; i < p.batches; i++)
         batch(&run, &p);

@@ -53,12 +53,12 @@ static const struct written {
 
 static void completion_written(const struct written *c)
 {
-    uint8_t wanted[GUARD + 20 + GUARD], came[sizeof wanted];
-    struct view view = {"entry", wanted, came, sizeof wanted};
-    uint8_t *entry = c->entry_bytes > 0 ? came + GUARD : NULL;
+    uint8_t wanted[GUARD + 20 + GUARD], actual[sizeof wanted];
+    struct view view = {"entry", wanted, actual, sizeof wanted};
+    uint8_t *entry = c->entry_bytes > 0 ? actual + GUARD : NULL;
 
     memset(wanted, 0xA5, sizeof wanted);
-    memset(came, 0xA5, sizeof came);
+    memset(actual, 0xA5, sizeof actual);
     if (c->refusal == 0) {
         memcpy(wanted + GUARD, p6, 14);
         memcpy(wanted + GUARD + 14, c->last, 2);
@@ -296,17 +296,17 @@ static void plant(uint64_t at, uint64_t count)
 /* Expects the parts in the result buffers and every other byte as it was. */
 static void walk_case(const char *what, const struct walk *w, struct bellrafter_pages wanted, const struct part *parts)
 {
-    static struct results results, came;
-    struct view views[] = {{"addresses", results.addresses, came.addresses, sizeof came.addresses},
-                           {"counts", results.counts, came.counts, sizeof came.counts}};
+    static struct results results, actual;
+    struct view views[] = {{"addresses", results.addresses, actual.addresses, sizeof actual.addresses},
+                           {"counts", results.counts, actual.counts, sizeof actual.counts}};
 
     memset(&results, 0xA5, sizeof results);
-    came = results;
+    actual = results;
     for (uint64_t i = 0; i < wanted.pages; i++) {
         put(results.addresses + GUARD + 8 * i, 8, parts[i].address);
         put(results.counts + GUARD + 4 * i, 4, parts[i].bytes);
     }
-    compare(what, of_pages(wanted), call_walk(bellrafter_page_walk, w, memory, &came), views, COUNT_OF(views));
+    compare(what, of_pages(wanted), call_walk(bellrafter_page_walk, w, memory, &actual), views, COUNT_OF(views));
 }
 
 /* The last entry of a list page, for each page size: with one page left data, with two left a pointer. */

@@ -81,14 +81,14 @@ static void count(bool good)
     failed += !good;
 }
 
-static void print_answers(const char *what, const struct answer *wanted, const struct answer *came)
+static void print_answers(const char *what, const struct answer *wanted, const struct answer *actual)
 {
     printf("FAILED %s: wanted", what);
     for (size_t i = 0; i < wanted->count; i++)
         printf(" %" PRIu64, wanted->number[i]);
-    printf(", came");
-    for (size_t i = 0; i < came->count; i++)
-        printf(" %" PRIu64, came->number[i]);
+    printf(", actual");
+    for (size_t i = 0; i < actual->count; i++)
+        printf(" %" PRIu64, actual->number[i]);
     printf("\n");
 }
 
@@ -96,21 +96,21 @@ static void print_first_difference(const char *what, const struct view *view)
 {
     size_t at = 0;
 
-    while (view->wanted[at] == view->came[at])
+    while (view->wanted[at] == view->actual[at])
         at++;
-    printf("FAILED %s: %s byte %ld: wanted %02x, came %02x\n", what, view->name, (long)at - GUARD, view->wanted[at],
-           view->came[at]);
+    printf("FAILED %s: %s byte %ld: wanted %02x, actual %02x\n", what, view->name, (long)at - GUARD, view->wanted[at],
+           view->actual[at]);
 }
 
-void compare(const char *what, struct answer wanted, struct answer came, const struct view *views, size_t view_count)
+void compare(const char *what, struct answer wanted, struct answer actual, const struct view *views, size_t view_count)
 {
     bool print = failed < PRINTED;
-    bool good = memcmp(wanted.number, came.number, sizeof wanted.number) == 0;
+    bool good = memcmp(wanted.number, actual.number, sizeof wanted.number) == 0;
 
     if (!good && print)
-        print_answers(what, &wanted, &came);
+        print_answers(what, &wanted, &actual);
     for (size_t i = 0; i < view_count; i++) {
-        bool same = memcmp(views[i].wanted, views[i].came, views[i].bytes) == 0;
+        bool same = memcmp(views[i].wanted, views[i].actual, views[i].bytes) == 0;
         if (!same && print)
             print_first_difference(what, &views[i]);
         good = good && same;
@@ -118,9 +118,9 @@ void compare(const char *what, struct answer wanted, struct answer came, const s
     count(good);
 }
 
-void expect(const char *what, struct answer wanted, struct answer came)
+void expect(const char *what, struct answer wanted, struct answer actual)
 {
-    compare(what, wanted, came, NULL, 0);
+    compare(what, wanted, actual, NULL, 0);
 }
 
 void require(bool met, const char *what)

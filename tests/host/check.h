@@ -40,15 +40,15 @@ struct answer of_submission(struct bellrafter_submission submission);
 struct view {
     const char *name;
     const uint8_t *wanted;
-    const uint8_t *came;
+    const uint8_t *actual;
     size_t bytes;
 };
 
 /* One expectation, of the answer and all the views: prints a line for each difference. */
-void compare(const char *what, struct answer wanted, struct answer came, const struct view *views, size_t view_count);
+void compare(const char *what, struct answer wanted, struct answer actual, const struct view *views, size_t view_count);
 
 /* One expectation, of an answer alone. */
-void expect(const char *what, struct answer wanted, struct answer came);
+void expect(const char *what, struct answer wanted, struct answer actual);
 
 /* One expectation, of anything: prints the text if it is not met. */
 void require(bool met, const char *what);

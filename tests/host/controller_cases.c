@@ -710,7 +710,8 @@ static void pair_cases(void)
     refused_finish("bad pair, second half first", M, 2, 0, BELLRAFTER_FIRST_HALF);
     want_finish("bad pair, first half", M, 1, 0, 8, 9);
     want_finish("bad pair, second half", M, 2, 0, 9, 10);
-    want_posted("bad pair's verdict stays", 1, 9, (struct bellrafter_completion){0, 0xDDCCBBAA, 3, 1, 2, INVALID_FIELD, 1});
+    want_posted("bad pair's verdict stays", 1, 9,
+                (struct bellrafter_completion){0, 0xDDCCBBAA, 3, 1, 2, INVALID_FIELD, 1});
     look_at_all();
 }
 
@@ -1020,24 +1021,24 @@ static void submission_cases(void)
                                         0x4142,
                                         0x4344,
                                         0x05};
-    uint8_t wanted[GUARD + 80 + GUARD], came[sizeof wanted];
-    struct view view = {"entry", wanted, came, sizeof wanted};
+    uint8_t wanted[GUARD + 80 + GUARD], actual[sizeof wanted];
+    struct view view = {"entry", wanted, actual, sizeof wanted};
 
     for (size_t bytes = 0; bytes <= 80; bytes++) {
         bool done = bytes >= 64;
         memset(wanted, 0xA5, sizeof wanted);
-        memset(came, 0xA5, sizeof came);
+        memset(actual, 0xA5, sizeof actual);
         if (done)
             memcpy(wanted + GUARD, wanted_entry, 64);
         uint64_t refusal = bellrafter_submission_write(
-            bytes > 0 ? came + GUARD : NULL, bytes, 0x05, TOP - 2, TOP - 1, 0x1122, 0x33445566, all.mptr, all.prp1,
+            bytes > 0 ? actual + GUARD : NULL, bytes, 0x05, TOP - 2, TOP - 1, 0x1122, 0x33445566, all.mptr, all.prp1,
             all.prp2, all.slba, 0x4142, 0x4344, 0x51525354, 0x61626364, 0x71727374);
         compare("submission written", of_number(done ? 0 : BELLRAFTER_BUFFER), of_number(refusal), &view, 1);
-        came[GUARD + 1] |= 0x3C; /* reserved bits */
-        memset(came + GUARD + 8, 0xFF, 8);
+        actual[GUARD + 1] |= 0x3C; /* reserved bits */
+        memset(actual + GUARD + 8, 0xFF, 8);
         expect("submission read",
                of_submission(done ? all : (struct bellrafter_submission){.refusal = BELLRAFTER_BUFFER}),
-               of_submission(bellrafter_submission_read(bytes > 0 ? came + GUARD : NULL, bytes)));
+               of_submission(bellrafter_submission_read(bytes > 0 ? actual + GUARD : NULL, bytes)));
     }
 }
 
@@ -1076,11 +1077,11 @@ static void guarded_cases(void)
     }
     for (uint64_t pages = 1; pages <= MOST_PAGES; pages++) { /* a list of zeros: every entry is page 0 */
         size_t bytes = 8 * (pages - 1);
-        struct bellrafter_pages came = bellrafter_page_walk(
+        struct bellrafter_pages actual = bellrafter_page_walk(
             last_bytes(area, bytes), bytes, 4092, 0, 4096 * (pages - 1) + (pages == 1 ? 4 : 0), 0,
             last_bytes(results, 8 * pages), 8 * pages, last_bytes(more_results, 4 * pages), 4 * pages);
         expect("guarded walk", of_pages((struct bellrafter_pages){0, pages, pages > 2 ? pages - 1 : 0}),
-               of_pages(came));
+               of_pages(actual));
     }
     read_only(area, false);
 }

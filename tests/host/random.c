@@ -5,8 +5,8 @@
 /* Writes an entry and reads it; where the writing is refused, any bytes are read. */
 static void random_entries(uint64_t calls)
 {
-    uint8_t wanted[GUARD + 64 + GUARD], came[sizeof wanted];
-    struct view view = {"entry", wanted, came, sizeof wanted};
+    uint8_t wanted[GUARD + 64 + GUARD], actual[sizeof wanted];
+    struct view view = {"entry", wanted, actual, sizeof wanted};
     char what[160];
 
     while (calls-- > 0) {
@@ -18,13 +18,13 @@ static void random_entries(uint64_t calls)
         uint64_t phase = any_number();
 
         fill_random(wanted, sizeof wanted);
-        memcpy(came, wanted, sizeof came);
+        memcpy(actual, wanted, sizeof actual);
         snprintf(what, sizeof what, "entry: %zu bytes, %u, %u, %u, %u, status %" PRIu64 ", phase %" PRIu64, bytes,
                  (unsigned)result, (unsigned)sqhd, (unsigned)sqid, (unsigned)cid, status, phase);
         uint64_t reference = ref_completion_write(wanted + start, bytes, result, sqhd, sqid, cid, status, phase);
-        uint64_t refusal = bellrafter_completion_write(came + start, bytes, result, sqhd, sqid, cid, status, phase);
+        uint64_t refusal = bellrafter_completion_write(actual + start, bytes, result, sqhd, sqid, cid, status, phase);
         compare(what, of_number(reference), of_number(refusal), &view, 1);
-        struct bellrafter_completion c = bellrafter_completion_read(came + start, bytes);
+        struct bellrafter_completion c = bellrafter_completion_read(actual + start, bytes);
         compare(what, of_completion(ref_completion_read(wanted + start, bytes)), of_completion(c), &view, 1);
         note("written", refusal == 0);
         note("write refusal 15", refusal == 15);
@@ -100,8 +100,8 @@ static void note_ring(struct bellrafter_waiting w, uint64_t size, uint64_t head)
 /* Rings in their first passes, half of the calls sound, the other half at times damaged. */
 static void random_rings(uint64_t calls)
 {
-    static uint8_t wanted[GUARD + 16 * 1024 + GUARD], came[sizeof wanted];
-    struct view view = {"ring", wanted, came, sizeof wanted};
+    static uint8_t wanted[GUARD + 16 * 1024 + GUARD], actual[sizeof wanted];
+    struct view view = {"ring", wanted, actual, sizeof wanted};
     char what[160];
 
     fill_random(wanted, sizeof wanted);
@@ -122,10 +122,10 @@ static void random_rings(uint64_t calls)
             bytes = once_in(8) ? below(16 * size) : bytes;
             size = once_in(8) ? (once_in(2) ? below(2) : beyond(1025)) : size;
         }
-        memcpy(came, wanted, sizeof came);
+        memcpy(actual, wanted, sizeof actual);
         snprintf(what, sizeof what, "ring: %zu bytes, size %" PRIu64 ", head %" PRIu64 ", phase %" PRIu64, bytes, size,
                  head, phase);
-        struct bellrafter_waiting w = bellrafter_ring_read(came + GUARD, bytes, size, head, phase);
+        struct bellrafter_waiting w = bellrafter_ring_read(actual + GUARD, bytes, size, head, phase);
         compare(what, of_waiting(ref_ring_read(wanted + GUARD, bytes, size, head, phase)), of_waiting(w), &view, 1);
         if (sound)
             expect(what, of_waiting((struct bellrafter_waiting){0, waiting}), of_waiting(w));
@@ -260,20 +260,20 @@ static uint64_t likely_place(uint64_t page_bytes, uint64_t prp2, uint64_t pages)
 
 static struct answer compare_walk(const struct walk *w, size_t whole)
 {
-    static struct results wanted, came;
+    static struct results wanted, actual;
     struct view views[] = {{"memory", wanted_memory, came_memory, GUARD + whole + GUARD},
-                           {"addresses", wanted.addresses, came.addresses, sizeof came.addresses},
-                           {"counts", wanted.counts, came.counts, sizeof came.counts}};
+                           {"addresses", wanted.addresses, actual.addresses, sizeof actual.addresses},
+                           {"counts", wanted.counts, actual.counts, sizeof actual.counts}};
     char what[240];
 
     memset(&wanted, (int)below(256), sizeof wanted);
-    came = wanted;
+    actual = wanted;
     memcpy(came_memory, wanted_memory, GUARD + whole + GUARD);
     snprintf(what, sizeof what,
              "walk: prp1 %" PRIx64 "h, prp2 %" PRIx64 "h, length %" PRIu64 ", page %" PRIu64 ", bytes %zu, %zu, %zu",
              w->prp1, w->prp2, w->length, w->page, w->memory_bytes, w->address_bytes, w->count_bytes);
     struct answer reference = call_walk(ref_page_walk, w, wanted_memory + GUARD, &wanted);
-    struct answer answer = call_walk(bellrafter_page_walk, w, came_memory + GUARD, &came);
+    struct answer answer = call_walk(bellrafter_page_walk, w, came_memory + GUARD, &actual);
     compare(what, reference, answer, views, COUNT_OF(views));
     return answer;
 }

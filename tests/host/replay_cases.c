@@ -64,12 +64,12 @@ static size_t put_records(uint8_t *at, const char *text)
 static void replay(const char *what, size_t lent, size_t trace_bytes, size_t room, uint64_t refusal)
 {
     uint64_t records = refusal == 0 ? (trace_bytes + RECORD - 1) / RECORD : 0;
-    struct bellrafter_replay came = twin_replay(what, lent, trace, trace_bytes, room);
+    struct bellrafter_replay actual = twin_replay(what, lent, trace, trace_bytes, room);
     struct view view = {"answers", wanted, answer_room - GUARD, GUARD + room};
 
     memset(wanted, FRESH_ROOM, GUARD);
     memset(wanted + GUARD + RECORD * records, FRESH_ROOM, room - RECORD * records);
-    compare(what, of_replay((struct bellrafter_replay){refusal, records}), of_replay(came), &view, 1);
+    compare(what, of_replay((struct bellrafter_replay){refusal, records}), of_replay(actual), &view, 1);
 }
 
 /* A replay of whole records that is done, with room for its answer records and no more. */

@@ -102,14 +102,14 @@ static bool equal(const struct answer *a, const struct answer *b)
 static void turn_case(const struct group *group, struct turn turn, unsigned candidates)
 {
     struct turn next = served(turn, candidates);
-    struct answer wanted = of_number(BELLRAFTER_NO_CANDIDATE), came = start(turn, candidates);
+    struct answer wanted = of_number(BELLRAFTER_NO_CANDIDATE), actual = start(turn, candidates);
     struct answer left_wanted = arbiter(group, next), left = of_arbiter(bellrafter_look_arbiter(state));
     char what[120];
 
     if (candidates != 0)
         wanted = of_start((struct bellrafter_start){
             0, next.holder, 1, 0, 0, slot_of(next.holder, turn), 0, turn.starts});
-    bool answered = equal(&wanted, &came);
+    bool answered = equal(&wanted, &actual);
     if (answered && equal(&left_wanted, &left)) {
         passed++;
         return;
@@ -117,7 +117,7 @@ static void turn_case(const struct group *group, struct turn turn, unsigned cand
     snprintf(what, sizeof what, "turn, mechanism %" PRIu64 ", %s, holder %" PRIu64 ", remainder %" PRIu64
              ", candidates %04xh%s", group->mechanism, group->name, turn.holder, turn.remainder, candidates,
              answered ? ", arbiter" : "");
-    expect(what, answered ? left_wanted : wanted, answered ? left : came);
+    expect(what, answered ? left_wanted : wanted, answered ? left : actual);
 }
 
 /* Under mechanism 1, SQ 0 is served before all groups, and the turn stays as it was. */

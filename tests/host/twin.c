@@ -103,7 +103,7 @@ struct call {
     uint64_t number[6];
 };
 
-static void show(const struct call *call, const char *what, struct answer wanted, struct answer came)
+static void show(const struct call *call, const char *what, struct answer wanted, struct answer actual)
 {
     char text[240];
     int at = snprintf(text, sizeof text, "call %" PRIu64 ", %s", calls_made, call->name);
@@ -111,27 +111,27 @@ static void show(const struct call *call, const char *what, struct answer wanted
     for (size_t i = 0; i < call->count; i++)
         at += snprintf(text + at, sizeof text - (size_t)at, " %" PRIu64, call->number[i]);
     snprintf(text + at, sizeof text - (size_t)at, ": %s", what);
-    if (memcmp(wanted.number, came.number, sizeof wanted.number) != 0)
-        expect(text, wanted, came);
+    if (memcmp(wanted.number, actual.number, sizeof wanted.number) != 0)
+        expect(text, wanted, actual);
     else
         require(false, text);
 }
 
 /* One expectation. `may_change`: whether the call may change the state, by what it answered. */
-static void settle(const struct call *call, struct answer wanted, struct answer came, bool may_change)
+static void settle(const struct call *call, struct answer wanted, struct answer actual, bool may_change)
 {
     bool all = ++calls_made % WHOLE_EVERY == 0;
 
-    for (size_t i = 0; i < came.count; i++)
-        answers_digest = (answers_digest ^ came.number[i]) * UINT64_C(0x100000001B3);
-    if (memcmp(wanted.number, came.number, sizeof wanted.number) != 0)
-        show(call, "answer", wanted, came);
+    for (size_t i = 0; i < actual.count; i++)
+        answers_digest = (answers_digest ^ actual.number[i]) * UINT64_C(0x100000001B3);
+    if (memcmp(wanted.number, actual.number, sizeof wanted.number) != 0)
+        show(call, "answer", wanted, actual);
     else if (!may_change && memcmp(before, state, STATE_BYTES) != 0)
-        show(call, "a word of the state has changed", wanted, came);
+        show(call, "a word of the state has changed", wanted, actual);
     else if (!around_untouched(all))
-        show(call, "bytes beside the state have changed", wanted, came);
+        show(call, "bytes beside the state have changed", wanted, actual);
     else if (!memories_equal(all))
-        show(call, "the memories differ", wanted, came);
+        show(call, "the memories differ", wanted, actual);
     else
         passed++;
 }
@@ -146,38 +146,38 @@ static void remember(void)
 static struct bellrafter_sq look_sq(uint64_t id)
 {
     protect(true, true);
-    struct bellrafter_sq came = bellrafter_look_sq(state, id);
+    struct bellrafter_sq actual = bellrafter_look_sq(state, id);
     protect(false, true);
-    settle(&(struct call){"look_sq", 1, {id}}, of_sq(ref_look_sq(&plain, id)), of_sq(came), false);
-    return came;
+    settle(&(struct call){"look_sq", 1, {id}}, of_sq(ref_look_sq(&plain, id)), of_sq(actual), false);
+    return actual;
 }
 
 static struct bellrafter_cq look_cq(uint64_t id)
 {
     protect(true, true);
-    struct bellrafter_cq came = bellrafter_look_cq(state, id);
+    struct bellrafter_cq actual = bellrafter_look_cq(state, id);
     protect(false, true);
-    settle(&(struct call){"look_cq", 1, {id}}, of_cq(ref_look_cq(&plain, id)), of_cq(came), false);
-    return came;
+    settle(&(struct call){"look_cq", 1, {id}}, of_cq(ref_look_cq(&plain, id)), of_cq(actual), false);
+    return actual;
 }
 
 static struct bellrafter_command look_command(uint64_t tag)
 {
     protect(true, true);
-    struct bellrafter_command came = bellrafter_look_command(state, tag);
+    struct bellrafter_command actual = bellrafter_look_command(state, tag);
     protect(false, true);
-    settle(&(struct call){"look_command", 1, {tag}}, of_command(ref_look_command(&plain, tag)), of_command(came),
+    settle(&(struct call){"look_command", 1, {tag}}, of_command(ref_look_command(&plain, tag)), of_command(actual),
            false);
-    return came;
+    return actual;
 }
 
 static struct bellrafter_arbiter look_arbiter(void)
 {
     protect(true, true);
-    struct bellrafter_arbiter came = bellrafter_look_arbiter(state);
+    struct bellrafter_arbiter actual = bellrafter_look_arbiter(state);
     protect(false, true);
-    settle(&(struct call){"look_arbiter", 0, {0}}, of_arbiter(ref_look_arbiter(&plain)), of_arbiter(came), false);
-    return came;
+    settle(&(struct call){"look_arbiter", 0, {0}}, of_arbiter(ref_look_arbiter(&plain)), of_arbiter(actual), false);
+    return actual;
 }
 
 void look_at_all(void)
@@ -232,10 +232,10 @@ uint64_t twin_new(uint64_t mechanism, uint32_t word)
 
     memset(before, (int)(calls_made % 256), STATE_BYTES);
     bellrafter_controller_new(before, mechanism, word);
-    uint64_t came = bellrafter_controller_new(state, mechanism, word);
-    settle(&call, of_number(ref_controller_new(&plain, mechanism, word)), of_number(came), false);
+    uint64_t actual = bellrafter_controller_new(state, mechanism, word);
+    settle(&call, of_number(ref_controller_new(&plain, mechanism, word)), of_number(actual), false);
     look_arbiter();
-    return came;
+    return actual;
 }
 
 uint64_t twin_create_cq(size_t lent, uint64_t id, uint64_t size, uint64_t base)
@@ -245,13 +245,13 @@ uint64_t twin_create_cq(size_t lent, uint64_t id, uint64_t size, uint64_t base)
 
     remember();
     protect(true, false);
-    uint64_t came = bellrafter_create_cq(state, memory, lent, id, size, base);
+    uint64_t actual = bellrafter_create_cq(state, memory, lent, id, size, base);
     protect(false, false);
     take_back(lent);
-    settle(&call, of_number(ref_create_cq(&plain, lent, id, size, base)), of_number(came), came == 0);
+    settle(&call, of_number(ref_create_cq(&plain, lent, id, size, base)), of_number(actual), actual == 0);
     remember();
     look_cq(id);
-    return came;
+    return actual;
 }
 
 uint64_t twin_create_sq(size_t lent, uint64_t id, uint64_t size, uint64_t base, uint64_t cq, uint64_t priority_class)
@@ -261,14 +261,14 @@ uint64_t twin_create_sq(size_t lent, uint64_t id, uint64_t size, uint64_t base, 
 
     remember();
     protect(true, false);
-    uint64_t came = bellrafter_create_sq(state, memory, lent, id, size, base, cq, priority_class);
+    uint64_t actual = bellrafter_create_sq(state, memory, lent, id, size, base, cq, priority_class);
     protect(false, false);
     take_back(lent);
-    settle(&call, of_number(ref_create_sq(&plain, lent, id, size, base, cq, priority_class)), of_number(came),
-           came == 0);
+    settle(&call, of_number(ref_create_sq(&plain, lent, id, size, base, cq, priority_class)), of_number(actual),
+           actual == 0);
     remember();
     look_sq(id);
-    return came;
+    return actual;
 }
 
 uint64_t twin_delete_sq(uint64_t id)
@@ -276,12 +276,12 @@ uint64_t twin_delete_sq(uint64_t id)
     struct call call = {"delete_sq", 1, {id}};
 
     remember();
-    uint64_t came = bellrafter_delete_sq(state, id);
-    settle(&call, of_number(ref_delete_sq(&plain, id)), of_number(came), came == 0);
+    uint64_t actual = bellrafter_delete_sq(state, id);
+    settle(&call, of_number(ref_delete_sq(&plain, id)), of_number(actual), actual == 0);
     remember();
     look_sq(id);
     look_arbiter();
-    return came;
+    return actual;
 }
 
 uint64_t twin_delete_cq(uint64_t id)
@@ -289,11 +289,11 @@ uint64_t twin_delete_cq(uint64_t id)
     struct call call = {"delete_cq", 1, {id}};
 
     remember();
-    uint64_t came = bellrafter_delete_cq(state, id);
-    settle(&call, of_number(ref_delete_cq(&plain, id)), of_number(came), came == 0);
+    uint64_t actual = bellrafter_delete_cq(state, id);
+    settle(&call, of_number(ref_delete_cq(&plain, id)), of_number(actual), actual == 0);
     remember();
     look_cq(id);
-    return came;
+    return actual;
 }
 
 uint64_t twin_tail(uint64_t id, uint64_t value)
@@ -301,12 +301,12 @@ uint64_t twin_tail(uint64_t id, uint64_t value)
     struct call call = {"tail_write", 2, {id, value}};
 
     remember();
-    uint64_t came = bellrafter_tail_write(state, id, value);
-    settle(&call, of_number(ref_tail_write(&plain, id, value)), of_number(came),
-           came == 0 || came == BELLRAFTER_DOORBELL);
+    uint64_t actual = bellrafter_tail_write(state, id, value);
+    settle(&call, of_number(ref_tail_write(&plain, id, value)), of_number(actual),
+           actual == 0 || actual == BELLRAFTER_DOORBELL);
     remember();
     look_sq(id);
-    return came;
+    return actual;
 }
 
 uint64_t twin_head(uint64_t id, uint64_t value)
@@ -314,11 +314,11 @@ uint64_t twin_head(uint64_t id, uint64_t value)
     struct call call = {"head_write", 2, {id, value}};
 
     remember();
-    uint64_t came = bellrafter_head_write(state, id, value);
-    settle(&call, of_number(ref_head_write(&plain, id, value)), of_number(came), came == 0);
+    uint64_t actual = bellrafter_head_write(state, id, value);
+    settle(&call, of_number(ref_head_write(&plain, id, value)), of_number(actual), actual == 0);
     remember();
     look_cq(id);
-    return came;
+    return actual;
 }
 
 struct bellrafter_start twin_start(size_t lent)
@@ -328,18 +328,18 @@ struct bellrafter_start twin_start(size_t lent)
 
     remember();
     protect(true, false);
-    struct bellrafter_start came = bellrafter_start(state, memory, lent);
+    struct bellrafter_start actual = bellrafter_start(state, memory, lent);
     protect(false, false);
     take_back(lent);
-    settle(&call, of_start(ref_start(&plain, plain_memory, lent)), of_start(came), came.refusal == 0);
+    settle(&call, of_start(ref_start(&plain, plain_memory, lent)), of_start(actual), actual.refusal == 0);
     remember();
-    if (came.refusal == 0) {
-        look_sq(came.sq);
-        look_command(came.first);
-        look_command(came.second);
+    if (actual.refusal == 0) {
+        look_sq(actual.sq);
+        look_command(actual.first);
+        look_command(actual.second);
         look_arbiter();
     }
-    return came;
+    return actual;
 }
 
 struct bellrafter_finish twin_finish(size_t lent, uint64_t tag, uint64_t status, uint32_t result)
@@ -349,15 +349,15 @@ struct bellrafter_finish twin_finish(size_t lent, uint64_t tag, uint64_t status,
     uint8_t *memory = lend(lent);
 
     remember();
-    struct bellrafter_finish came = bellrafter_finish(state, memory, lent, tag, status, result);
+    struct bellrafter_finish actual = bellrafter_finish(state, memory, lent, tag, status, result);
     take_back(lent);
-    settle(&call, of_finish(ref_finish(&plain, plain_memory, lent, tag, status, result)), of_finish(came),
-           came.refusal == 0);
+    settle(&call, of_finish(ref_finish(&plain, plain_memory, lent, tag, status, result)), of_finish(actual),
+           actual.refusal == 0);
     remember();
     look_command(tag);
-    if (came.refusal == 0)
+    if (actual.refusal == 0)
         look_cq(plain.sqs[command.sq % 16].cq);
-    return came;
+    return actual;
 }
 
 struct bellrafter_replay twin_replay(const char *what, size_t lent, const uint8_t *trace, size_t trace_bytes,
@@ -374,20 +374,20 @@ struct bellrafter_replay twin_replay(const char *what, size_t lent, const uint8_
     remember();
     if (guarding)
         read_only(trace_area, true);
-    struct bellrafter_replay came = bellrafter_replay(state, memory, lent, trace_bytes > 0 ? sent : NULL, trace_bytes,
+    struct bellrafter_replay actual = bellrafter_replay(state, memory, lent, trace_bytes > 0 ? sent : NULL, trace_bytes,
                                                       room > 0 ? answers : NULL, room);
     if (guarding)
         read_only(trace_area, false);
     take_back(lent);
     struct bellrafter_replay wanted =
         ref_replay(&plain, plain_memory, lent, trace, trace_bytes, plain_answers + GUARD, room);
-    settle(&call, of_replay(wanted), of_replay(came), came.refusal == 0);
-    compare(what, of_replay(wanted), of_replay(came), &view, 1);
+    settle(&call, of_replay(wanted), of_replay(actual), actual.refusal == 0);
+    compare(what, of_replay(wanted), of_replay(actual), &view, 1);
     require(memcmp(sent, trace, trace_bytes) == 0, "the trace has changed");
     compare_memories();
     look_at_all();
     answer_room = answers;
-    return came;
+    return actual;
 }
 
 /* Memory. */
@@ -397,13 +397,13 @@ void twin_submit(uint64_t at, struct submitted s)
     uint64_t o = s.others;
 
     remember();
-    uint64_t came = bellrafter_submission_write(
+    uint64_t actual = bellrafter_submission_write(
         memory_area.bytes + at, 64, (uint8_t)s.opc, s.fuse, s.psdt, (uint16_t)s.cid, (uint32_t)s.nsid, o, ~o, o << 8,
         s.slba, (uint16_t)s.nlb, (uint16_t)(o >> 16), (uint32_t)(o >> 8), (uint32_t)o, (uint32_t)(o >> 32));
     uint64_t wanted = ref_submission_write(
         plain_memory + at, 64, (uint8_t)s.opc, s.fuse, s.psdt, (uint16_t)s.cid, (uint32_t)s.nsid, o, ~o, o << 8,
         s.slba, (uint16_t)s.nlb, (uint16_t)(o >> 16), (uint32_t)(o >> 8), (uint32_t)o, (uint32_t)(o >> 32));
-    settle(&(struct call){"submission_write", 1, {at}}, of_number(wanted), of_number(came), false);
+    settle(&(struct call){"submission_write", 1, {at}}, of_number(wanted), of_number(actual), false);
 }
 
 void twin_poke(uint64_t at, const uint8_t *bytes, size_t count)

@@ -1,8 +1,8 @@
 #include "wanted.h"
 
-void want(const char *what, uint64_t wanted, uint64_t came)
+void want(const char *what, uint64_t wanted, uint64_t actual)
 {
-    expect(what, of_number(wanted), of_number(came));
+    expect(what, of_number(wanted), of_number(actual));
 }
 
 void want_start(const char *what, struct bellrafter_start wanted, size_t lent)

@@ -19,7 +19,7 @@ enum {
     MISSING_FUSED = BELLRAFTER_STATUS_MISSING_FUSED
 };
 
-void want(const char *what, uint64_t wanted, uint64_t came);
+void want(const char *what, uint64_t wanted, uint64_t actual);
 void want_start(const char *what, struct bellrafter_start wanted, size_t lent);
 void refused_start(const char *what, size_t lent, uint64_t refusal);
 void want_finish(const char *what, size_t lent, uint64_t tag, uint64_t status, uint64_t slot, uint64_t number);

@@ -1,7 +1,7 @@
 -- What holds of a dialogue between its steps. Assumes nothing.
 use Prim.Native.Nat.{_≤_}
 use Rattle.session.specs.Kept as session
-use Rattle.words.specs.Sizes.{outBytes}
+use Rattle.text.specs.Sizes.{outBytes}
 use Rattle.dialogue.specs.declared.Dialogue.{Dialogue}
 
 -- so does its session, and what is not yet written out lies inside its buffer

@@ -3,17 +3,17 @@ ghost use mathlib.Core.Path.{_≡_};
 ghost use Prim.Native.Nat.{_+_, _≤_};
 ghost use lib.ListN.{length};
 ghost use Rattle.dialogue.specs.Kept.{Kept};
-ghost use Rattle.words.specs.Sizes.{chunkBytes, heldBytes, memoryBytes, outBytes, roomBytes};
+ghost use Rattle.text.specs.Sizes.{chunkBytes, heldBytes, memoryBytes, outBytes, roomBytes};
 use libc::STDERR_FILENO;
 use libc::STDIN_FILENO;
 use lines::Found;
 use session::Session;
 use session::form::Form;
-use words::sizes::CHUNK_BYTES;
-use words::sizes::HELD_BYTES;
-use words::sizes::MEMORY_BYTES;
-use words::sizes::OUT_BYTES;
-use words::sizes::ROOM_BYTES;
+use text::sizes::CHUNK_BYTES;
+use text::sizes::HELD_BYTES;
+use text::sizes::MEMORY_BYTES;
+use text::sizes::OUT_BYTES;
+use text::sizes::ROOM_BYTES;
 
 // Of how many lines the answers are written out, and how many bytes of answers are not yet; whether the conversation goes on,
 // and the form of its answers.
@@ -26,7 +26,7 @@ struct Dialogue {
 }
 
 // Says on standard error what failed, by which error and where, and ends the conversation.
-fn give_up(mut s: Dialogue, what: &[u8], error: u64) -> Dialogue
+fn fail(mut s: Dialogue, what: &[u8], error: u64) -> Dialogue
     requires { ⌜ Kept s ⌝ }
     ensures { λ r. ⌜ Kept r × (r .unwritten ≡ s .unwritten) ⌝ }
 {
@@ -53,7 +53,7 @@ fn write_out(mut s: Dialogue, out: &[u8]) -> Dialogue
     }
     let error = stream::write(&out[..n]);
     if error > 0 {
-        return give_up(s, b"write", error);
+        return fail(s, b"write", error);
     }
     let session = s.session;
     let lines = session.lines;
@@ -109,7 +109,7 @@ fn step(
     match found {
         Found::Line | Found::Nothing => s,
         Found::End => finish(s, out),
-        Found::Failed(error) => give_up(s, b"read", error),
+        Found::Failed(error) => fail(s, b"read", error),
     }
 }
 

@@ -3,9 +3,9 @@ ghost use mathlib.Core.Path.{_≡_};
 ghost use Prim.Native.Nat.{_<_, _≤_};
 ghost use lib.ListN.{length};
 ghost use Rattle.lines.specs.Inside.{Inside};
-ghost use Rattle.words.specs.Sizes.{chunkBytes, heldBytes};
-use words::line::without_cr;
-use words::sizes::HELD_BYTES;
+ghost use Rattle.text.specs.Sizes.{chunkBytes, heldBytes};
+use text::line::without_cr;
+use text::sizes::HELD_BYTES;
 
 // How many lines have ended; how many bytes the chunk has, and where it is read on; how many bytes of the next line are held;
 // and whether more may come.

@@ -2,7 +2,7 @@
 // record and its answer in words.
 use libc::STDERR_FILENO;
 use setup::fault::say_path;
-use words::sizes::MEMORY_BYTES;
+use text::sizes::MEMORY_BYTES;
 
 mod play;
 

@@ -1,21 +1,21 @@
-// The trace, replayed and told piece by piece. A replay of two traces joined at a record's end is the first replay and then the
+// The trace, replayed and printed piece by piece. A replay of two traces joined at a record's end is the first replay and then the
 // second (trace Joined.records-join, replay Joined.played-join), so the pieces give what one replay of the whole gives.
 ghost use mathlib.Core.Path.{_≡_};
 ghost use Prim.Native.Nat.{_≤_};
 ghost use lib.ListN.{length};
 ghost use Rattle.shell.specs.Ready.{Ready};
-ghost use Rattle.words.specs.Sizes.{memoryBytes};
+ghost use Rattle.text.specs.Sizes.{memoryBytes};
 use replay::replay;
-use report::piece::PIECE_BYTES;
-use report::piece::ROOM_BYTES;
-use report::piece::put_piece;
-use report::summary::Tally;
-use report::summary::put_summary;
 use setup::fault::say_at;
 use shell::Shell;
 use stream::Input;
+use text::sizes::MEMORY_BYTES;
 use trace::RECORD_BYTES;
-use words::sizes::MEMORY_BYTES;
+use transcript::piece::PIECE_BYTES;
+use transcript::piece::ROOM_BYTES;
+use transcript::piece::put_piece;
+use transcript::summary::Tally;
+use transcript::summary::put_summary;
 
 // The records so far, whether more are left, and whether nothing has stopped it.
 struct Play {
@@ -56,17 +56,17 @@ fn is_written(out: &[u8], n: usize, records: u64) -> bool
     true
 }
 
-// Replays a piece and tells its records.
-fn tell(s: Play, memory: &mut [u8], trace: &[u8], answers: &mut [u8], out: &mut [u8]) -> Play
+// Replays a piece and prints its records.
+fn print_piece(s: Play, memory: &mut [u8], trace: &[u8], answers: &mut [u8], out: &mut [u8]) -> Play
     requires { ⌜ Ready (s .shell) × (memoryBytes ≤ length (now memory)) × (length (now trace) ≤ 4096) ⌝ }
     requires { ⌜ (4096 ≡ length (now answers)) × (65536 ≡ length (now out)) ⌝ }
     ensures { λ r. ⌜ Ready (r .shell) ⌝ }
 {
     let shell = replayed(s.shell, memory, trace, answers);
     let tally = s.tally;
-    let told = put_piece(out, tally, trace, answers);
-    let next = told.tally;
-    let written = is_written(out, told.end, tally.records);
+    let piece = put_piece(out, tally, trace, answers);
+    let next = piece.tally;
+    let written = is_written(out, piece.end, tally.records);
     Play {
         shell: shell,
         tally: next,
@@ -86,7 +86,7 @@ fn taken(input: Input) -> usize
 }
 
 // Looks at what was read: it goes on where the piece is full.
-fn came(mut s: Play, input: Input) -> Play
+fn after_read(mut s: Play, input: Input) -> Play
     requires { ⌜ Ready (s .shell) ⌝ }
     ensures { λ r. ⌜ Ready (r .shell) ⌝ }
 {
@@ -103,7 +103,7 @@ fn came(mut s: Play, input: Input) -> Play
     s
 }
 
-// Reads a piece, and tells its records.
+// Reads a piece, and prints its records.
 fn step(
     s: Play,
     fd: i32,
@@ -117,9 +117,9 @@ fn step(
     ensures { λ r. ⌜ Ready (r .shell) ⌝ }
 {
     let input = stream::fill(fd, trace);
-    let next = came(s, input);
+    let next = after_read(s, input);
     let n = taken(input);
-    tell(next, memory, &trace[..n], answers, out)
+    print_piece(next, memory, &trace[..n], answers, out)
 }
 
 fn turn(
@@ -136,7 +136,7 @@ fn turn(
     step(s, fd, memory, trace, answers, out)
 }
 
-fn sum_up(tally: Tally, out: &mut [u8; ROOM_BYTES]) {
+fn print_summary(tally: Tally, out: &mut [u8; ROOM_BYTES]) {
     let n = put_summary(out, tally);
     is_written(out, n, tally.records);
 }
@@ -161,6 +161,6 @@ pub(super) fn run(shell: Shell, fd: i32, memory: &mut [u8; MEMORY_BYTES])
         turns -= 1;
     }
     if s.good {
-        sum_up(s.tally, &mut out);
+        print_summary(s.tally, &mut out);
     }
 }

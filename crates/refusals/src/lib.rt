@@ -2,10 +2,10 @@
 // `at` on and answers the place after what it wrote.
 ghost use Prim.Native.Nat.{_+_, _≤_};
 ghost use lib.ListN.{length};
-use crate::text::put_named;
-use words::print::put;
+use crate::named::put_named;
+use text::print::put;
 
-pub mod text;
+pub mod named;
 
 // The largest number that any call or record is refused with.
 pub const LARGEST: usize = 35;

@@ -19,10 +19,10 @@ use queues::create::create_sq;
 use starter::start;
 use store::Controller;
 use store::WORDS;
-use words::line::Word;
-use words::line::next_word;
-use words::number::Number;
-use words::number::value_of;
+use text::line::Word;
+use text::line::next_word;
+use text::number::Number;
+use text::number::value_of;
 
 // A page for each of the 16 submission and 16 completion rings.
 const MEMORY_BYTES: usize = 131072;
@@ -259,7 +259,7 @@ fn next_tag(tag: u64, last: u64) -> u64 {
 }
 
 // `n` starts, each with so many finishes of the tags that have been outstanding longest.
-fn trips(
+fn start_and_finish(
     state: &mut [u64; WORDS],
     run: Run,
     memory: &mut [u8],
@@ -373,7 +373,7 @@ fn round(
     ensures { λ _. ⌜ Reached (now (state .exit)) ⌝ }
 {
     let submitted = submit(state, run, busy, SUBMITTED);
-    let done = trips(state, submitted, memory, starts, finishes, last_tag);
+    let done = start_and_finish(state, submitted, memory, starts, finishes, last_tag);
     release(state, done, busy, SUBMITTED)
 }
 
@@ -416,7 +416,7 @@ fn prepare(state: &mut [u64; WORDS], memory: &mut [u8; MEMORY_BYTES], p: Plan) -
         return run;
     }
     let submitted = submit(state, run, 1, p.outstanding);
-    trips(state, submitted, memory, p.outstanding, 0, 0)
+    start_and_finish(state, submitted, memory, p.outstanding, 0, 0)
 }
 
 // The digest of all answers.

@@ -2,7 +2,7 @@
 ghost use mathlib.Core.Path.{_≡_};
 ghost use Prim.Native.Nat.{_+_, _≤_};
 ghost use lib.ListN.{length};
-ghost use Rattle.words.specs.Sizes.{outBytes};
+ghost use Rattle.text.specs.Sizes.{outBytes};
 
 // An answer alone; beside what is wanted, the text behind the `#` of its line; or under its line, which is repeated.
 pub enum Form {

@@ -4,7 +4,7 @@ ghost use Prim.Native.Nat.{_+_, _≤_};
 ghost use lib.ListN.{length};
 ghost use Rattle.session.specs.Kept.{Kept};
 ghost use Rattle.shell.specs.Ready.{Ready};
-ghost use Rattle.words.specs.Sizes.{chunkBytes, heldBytes, memoryBytes, outBytes, roomBytes};
+ghost use Rattle.text.specs.Sizes.{chunkBytes, heldBytes, memoryBytes, outBytes, roomBytes};
 use crate::form::Form;
 use crate::form::put_line;
 use crate::form::put_wanted;
@@ -73,8 +73,7 @@ fn without_line(s: Session, found: Found, at: usize) -> Step
     }
 }
 
-// Puts a line, where its form repeats it, its answer and what is wanted from `at` on; the length answered is that of the whole buffer's
-// text.
+// Answers a line of a number from `at` on, in the form wanted; the length is then that of all that stands in the buffer.
 fn put_answer(
     shell: Shell,
     number: u64,

@@ -1,8 +1,8 @@
 // What is said on standard error. The reason is the text of `errno`, so each is said just after the call that failed.
 ghost use Prim.Native.Nat.{_≤_};
 ghost use lib.ListN.{length};
-use words::print::put;
-use words::print::put_next;
+use text::print::put;
+use text::print::put_next;
 
 // Of a file that cannot be opened.
 pub fn say_path(path: &[u8])

@@ -1,10 +1,10 @@
 // A line of the set-up whose call was refused.
 ghost use Prim.Native.Nat.{_+_, _≤_};
 ghost use lib.ListN.{length};
+use refusals::named::put_named;
 use refusals::put_refused;
-use refusals::text::put_named;
-use words::print::put;
-use words::print::put_end;
+use text::print::put;
+use text::print::put_end;
 
 // The line's number, its command's word and the refusal.
 pub(super) fn put_refused_line(out: &mut [u8], number: u64, word: &[u8], refusal: u64) -> usize

@@ -1,7 +1,7 @@
 -- What holds of a shell between lines. Assumes nothing.
 use Prim.Native.Nat.{_≤_}
 use Rattle.store.specs.Held.{Reached}
-use Rattle.words.specs.Sizes.{memoryBytes}
+use Rattle.text.specs.Sizes.{memoryBytes}
 use Rattle.shell.specs.declared.Shell.{Shell}
 
 -- its controller came from a fresh one by calls, and the part lent lies in the memory

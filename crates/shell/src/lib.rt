@@ -2,31 +2,31 @@
 ghost use Prim.Native.Nat.{_<_, _≤_};
 ghost use lib.ListN.{length};
 ghost use Rattle.shell.specs.Ready.{Ready};
-ghost use Rattle.words.specs.Sizes.{answerBytes, lineBytes, memoryBytes};
+ghost use Rattle.text.specs.Sizes.{answerBytes, lineBytes, memoryBytes};
 use crate::queue::call;
 use crate::queue::show;
-use replayer::replay;
+use replay_command::replay;
 use stateless::codec::check;
 use stateless::codec::in_memory;
+use stateless::listing::Text;
+use stateless::listing::peek;
+use stateless::listing::walk;
 use stateless::poke::poke;
 use stateless::reply::Reply;
-use stateless::text::Text;
-use stateless::text::peek;
-use stateless::text::walk;
 use store::Controller;
 use store::WORDS;
-use words::arguments::Arguments;
-use words::arguments::read;
-use words::command::Command;
-use words::command::named;
-use words::line::Word;
-use words::line::next_word;
-use words::print::put;
-use words::print::put_bad;
-use words::print::put_end;
-use words::print::put_numbers;
-use words::sizes::LINE_BYTES;
-use words::sizes::MEMORY_BYTES;
+use text::arguments::Arguments;
+use text::arguments::read;
+use text::command::Command;
+use text::command::named;
+use text::line::Word;
+use text::line::next_word;
+use text::print::put;
+use text::print::put_bad;
+use text::print::put_end;
+use text::print::put_numbers;
+use text::sizes::LINE_BYTES;
+use text::sizes::MEMORY_BYTES;
 
 mod queue;
 
@@ -271,7 +271,7 @@ fn close(done: Done, number: u64, out: &mut [u8]) -> Answered
 }
 
 // The answer to a line whose first word is given.
-fn obey(
+fn execute(
     shell: Shell,
     memory: &mut [u8],
     line: &[u8],
@@ -313,5 +313,5 @@ pub fn answer(shell: Shell, memory: &mut [u8], line: &[u8], number: u64, out: &m
             refusal: 0,
         };
     }
-    obey(shell, memory, line, word, number, out)
+    execute(shell, memory, line, word, number, out)
 }

@@ -21,7 +21,7 @@ use store::free_of;
 use store::is_outstanding;
 use store::reset;
 use store::sq_at;
-use words::command::Command;
+use text::command::Command;
 
 // The SQ, how many commands, their tags, the first slot, the verdict and the first start number.
 fn started(answer: Started) -> Reply {

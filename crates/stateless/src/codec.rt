@@ -5,7 +5,7 @@ use entry::completion::CompletionRead;
 use entry::submission::Submission;
 use entry::submission::SubmissionRead;
 use ring::reader::Waiting;
-use words::command::Command;
+use text::command::Command;
 
 fn low8(n: u64) -> u8 {
     (n % 256) as u8

@@ -2,10 +2,10 @@
 ghost use Prim.Native.Nat.{_^_, _<_, _≤_};
 ghost use lib.ListN.{length};
 use crate::reply::Reply;
-use words::arguments::Arguments;
-use words::line::next_word;
-use words::number::Number;
-use words::number::value_of;
+use text::arguments::Arguments;
+use text::line::next_word;
+use text::number::Number;
+use text::number::value_of;
 
 // One more than the count of the numbers, 8 bytes wide or one, that fit into so many bytes.
 fn rooms(bytes: usize, wide: bool) -> usize

@@ -15,7 +15,7 @@ pub struct Input {
 }
 
 // Sleeps for a millisecond, or until a signal comes.
-fn nap() {
+fn sleep() {
     let asked = timespec {
         tv_sec: 0,
         tv_nsec: 1000000,
@@ -47,7 +47,7 @@ fn fatal(moved: isize) -> u64 {
             return number(error);
         }
     }
-    nap();
+    sleep();
     0
 }
 

@@ -2,10 +2,10 @@
 use libc::STDOUT_FILENO;
 use refusals::LARGEST;
 use refusals::put_meaning;
-use report::piece::ROOM_BYTES;
-use report::summary::Tally;
-use report::summary::put_summary;
-use words::print::put_end;
+use text::print::put_end;
+use transcript::piece::ROOM_BYTES;
+use transcript::summary::Tally;
+use transcript::summary::put_summary;
 
 // Two records done, and one refused with each number named.
 fn tally() -> Tally {

@@ -3,7 +3,7 @@ use borrow.Author.Needs.{needs}
 use Prim.Native.Nat.{_≤_, _-_}
 use lib.ListN.{length}
 use mathlib.Core.Path.{_≡_}
-use Rattle.words.specs.Sizes.{heldBytes}
+use Rattle.text.specs.Sizes.{heldBytes}
 use Rattle.lines.proofs.gather.Statement.{statement}
 use Rattle.lines.proofs.gather.Tie as tie
 

@@ -7,8 +7,8 @@ use Rattle.lines.proofs.Prefix.{at-most}
 use Rattle.playback.proofs.play.step.Statement.{statement}
 use Rattle.playback.proofs.play.step.Tie as tie
 
-tell-requires : tie.Need-tell-requires
-tell-requires c κs =
+print-piece-requires : tie.Need-print-piece-requires
+print-piece-requires c κs =
     let n : ℕ = c .before .before .before .before .taken .result in
     ((search needs, search needs, at-most n _ (search needs)), (search needs, search needs))
 
@@ -21,7 +21,7 @@ step-spec =
     (λ c κs. search needs)
     (λ c. search needs)
     (λ c. sym (length-take-le _ _ (search needs)))
-    tell-requires
+    print-piece-requires
     (λ c. search needs)
     (λ c. search needs)
     (λ c. search needs)
