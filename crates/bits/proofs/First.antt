@@ -1,5 +1,5 @@
--- Laws of the first number that passes a test and of the count of those that pass; and that the machine's trailing zeros and
--- count of ones are these, of the bits that are set. Assumes nothing.
+-- Laws of the first number that passes a test; and that the machine's trailing zeros and count of ones are the first and the count of the
+-- bits that are set. Assumes nothing.
 use Prim.Native.Nat.{ℕ, zero, suc, _+_, _/_, _%_, _^_, _≤_, _<_}
 use mathlib.Core.Bool.{Bool, true, false}
 use mathlib.Core.Logic.{⊎-elim}
@@ -11,6 +11,7 @@ use Rattle.rules.specs.Rules.{pick}
 use Rattle.rules.proofs.Tests.{bool-cases, pick-yes, pick-no}
 use Rattle.bits.specs.Bits.{bit, isSet, first, count}
 use Rattle.bits.proofs.Bits.{bit-cases, is-set, not-set, set-suc}
+use Rattle.bits.proofs.Counting.{count-same}
 
 module _ (p : ℕ → Bool) where
   first-yes : (at n : ℕ) → p at ≡ true → first p at (suc n) ≡ at
@@ -66,11 +67,6 @@ module _ (p q : ℕ → Bool) (e : (j : ℕ) → p j ≡ q j) where
   first-cong at zero = refl
   first-cong at (suc n) = rw (e at, first-cong (suc at) n)
 
-  pub count-cong : (at n : ℕ) → count p at n ≡ count q at n
-  unfolding count
-  count-cong at zero = refl
-  count-cong at (suc n) = rw (e at, count-cong (suc at) n)
-
 pick-suc : (b : Bool) (x y : ℕ) → pick b (suc x) (suc y) ≡ suc (pick b x y)
 pick-suc true x y = refl
 pick-suc false x y = refl
@@ -116,7 +112,9 @@ count-ones zero x h = let e : x ≡ 0 = omega arith in sym (ap ones e ∙ ones-z
 count-ones (suc k) x h =
     ap (λ (d : ℕ). d + count (isSet x) 1 k) (pick-bit x)
     ∙ ap (λ (c : ℕ). x % 2 + c)
-    (count-suc (isSet x) 0 k ∙ count-cong (λ i. isSet x (suc i)) (isSet (x / 2)) (set-suc x) 0 k ∙ count-ones k (x / 2) (omega arith))
+    (count-suc (isSet x) 0 k
+    ∙ count-same (λ i. isSet x (suc i)) (isSet (x / 2)) 0 k (λ j a b. set-suc x j)
+    ∙ count-ones k (x / 2) (omega arith))
     ∙ sym (ones-step x)
 
 under-lt : (d t j : ℕ) → (d ≡ 0 → t < j) → under d t < suc j

@@ -1,4 +1,5 @@
 pub mod Bits
+pub mod Counting
 pub mod First
 pub mod Masks
 pub mod Tags
