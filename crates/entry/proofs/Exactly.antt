@@ -4,12 +4,13 @@ use mathlib.Core.List.{List, [], _∷_, _++_}
 use mathlib.Core.Path.{_≡_, refl}
 use lib.Dec.{ltb}
 use lib.ListN.{length, replicate}
-use Rattle.rules.specs.Rules.{firstMatch}
-use Rattle.rules.proofs.Cases.{settle-cases}
+use Rattle.rules.proofs.Cases.{settle-number}
 use Rattle.rules.proofs.Exactly.{says-lt, Decided, decided}
 use Rattle.le.specs.Le.{le, leAt}
 use Rattle.entry.specs.declared.completion.Completion.{Completion}
+use Rattle.entry.specs.declared.completion.CompletionRead.the-variants as C
 use Rattle.entry.specs.declared.submission.Submission.{Submission}
+use Rattle.entry.specs.declared.submission.SubmissionRead.the-variants as S
 use Rattle.entry.specs.Completion as completion
 use Rattle.entry.specs.Completion.{completionBytes, completionAt, phaseTag, completionAnswer, completionRead}
 use Rattle.entry.specs.Submission as submission
@@ -28,19 +29,25 @@ pub submission-writer : (n : ℕ) → Decided ((n < 64, 21) ∷ []) (submission.
 unfolding submission.writeRefusal
 submission-writer n = decided ((ltb n 64, 21) ∷ []) ((n < 64, 21) ∷ []) (refl, says-lt n 64, λ a. tt)
 
-pub completion-reader : (b : List ℕ) → Decided ((length b < 16, 21) ∷ []) (completionAnswer (completionRead b) .0)
-unfolding completionRead
-completion-reader b =
-    let d = decided ((ltb (length b) 16, 21) ∷ []) ((length b < 16, 21) ∷ []) (refl, says-lt (length b) 16, λ a. tt) in
-    settle-cases (λ r. Decided ((length b < 16, 21) ∷ []) (completionAnswer r .0)) (firstMatch ((ltb (length b) 16, 21) ∷ [])) _ _
-    (λ z. rw z at d) (λ z. d)
+-- the number that a reader answers is its refusal
+module _ (b : List ℕ) where
+  pub completion-number : completionAnswer (completionRead b) .0 ≡ completion.readRefusal (length b)
+  unfolding completionRead
+  completion-number = settle-number (λ r. completionAnswer r .0) (completion.readRefusal (length b)) C.Refused _ (λ k. refl) refl
 
-pub submission-reader : (b : List ℕ) → Decided ((length b < 64, 21) ∷ []) (submissionAnswer (submissionRead b) .0)
-unfolding submissionRead
-submission-reader b =
-    let d = decided ((ltb (length b) 64, 21) ∷ []) ((length b < 64, 21) ∷ []) (refl, says-lt (length b) 64, λ a. tt) in
-    settle-cases (λ r. Decided ((length b < 64, 21) ∷ []) (submissionAnswer r .0)) (firstMatch ((ltb (length b) 64, 21) ∷ [])) _ _
-    (λ z. rw z at d) (λ z. d)
+  pub submission-number : submissionAnswer (submissionRead b) .0 ≡ submission.readRefusal (length b)
+  unfolding submissionRead
+  submission-number = settle-number (λ r. submissionAnswer r .0) (submission.readRefusal (length b)) S.Refused _ (λ k. refl) refl
+
+  pub completion-reader : Decided ((length b < 16, 21) ∷ []) (completionAnswer (completionRead b) .0)
+  completion-reader =
+      rw completion-number
+      (decided ((ltb (length b) 16, 21) ∷ []) ((length b < 16, 21) ∷ []) (refl, says-lt (length b) 16, λ a. tt))
+
+  pub submission-reader : Decided ((length b < 64, 21) ∷ []) (submissionAnswer (submissionRead b) .0)
+  submission-reader =
+      rw submission-number
+      (decided ((ltb (length b) 64, 21) ∷ []) ((length b < 64, 21) ∷ []) (refl, says-lt (length b) 64, λ a. tt))
 
 -- ---- fields
 

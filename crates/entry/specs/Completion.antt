@@ -39,6 +39,10 @@ abbrev pub completionAnswer : CompletionRead → ℕ × Completion × ℕ
 completionAnswer (Entry e phase) = (0, e, phase)
 completionAnswer (Refused n) = (n, completion 0 0 0 0 0, 0)
 
+-- the refusal of the reader on n bytes
+abbrev pub readRefusal : ℕ → ℕ
+readRefusal n = firstMatch ((ltb n 16, 21) ∷ [])
+
 -- the reader's answer
 unfoldable pub completionRead : List ℕ → CompletionRead
-completionRead b = settle (firstMatch ((ltb (length b) 16, 21) ∷ [])) Refused (Entry (completionAt b) (phaseTag b))
+completionRead b = settle (readRefusal (length b)) Refused (Entry (completionAt b) (phaseTag b))

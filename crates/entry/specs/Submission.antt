@@ -74,6 +74,10 @@ abbrev pub submissionAnswer : SubmissionRead → ℕ × Submission
 submissionAnswer (Entry e) = (0, e)
 submissionAnswer (Refused n) = (n, noSubmission)
 
+-- the refusal of the reader on n bytes
+abbrev pub readRefusal : ℕ → ℕ
+readRefusal n = firstMatch ((ltb n 64, 21) ∷ [])
+
 -- the reader's answer
 unfoldable pub submissionRead : List ℕ → SubmissionRead
-submissionRead b = settle (firstMatch ((ltb (length b) 64, 21) ∷ [])) Refused (Entry (submissionAt b))
+submissionRead b = settle (readRefusal (length b)) Refused (Entry (submissionAt b))

@@ -3,7 +3,7 @@ ghost use mathlib.Core.Path.{_≡_};
 ghost use Prim.Native.Nat.{_≤_};
 ghost use lib.ListN.{length};
 ghost use Rattle.le.specs.Memory.{put};
-ghost use Rattle.entry.specs.Completion.{completion, completionBytes, writeRefusal, written, completionAnswer, completionRead};
+ghost use Rattle.entry.specs.Completion.{completion, completionBytes, writeRefusal, written, completionAnswer, readRefusal, completionRead};
 
 // What a completion tells of its command. The phase tag beside it in an entry is the ring's.
 pub struct Completion {
@@ -59,7 +59,7 @@ pub fn write(
 // Reads the entry in the first 16 bytes of `buf`.
 pub fn read(buf: &[u8]) -> CompletionRead
     ensures { λ r. ⌜ r ≡ completionRead (now (buf .entry)) ⌝ }
-    ensures { λ r. ⌜ completionAnswer r ≡ completionAnswer (completionRead (now (buf .entry))) ⌝ }
+    ensures { λ r. ⌜ completionAnswer r .0 ≡ readRefusal (length (now (buf .entry))) ⌝ }
 {
     if buf.len() < 16 {
         return CompletionRead::Refused(21);

@@ -6,7 +6,7 @@ ghost use lib.ListN.{length};
 ghost use lib.Seq.{sets};
 ghost use Rattle.le.specs.Le.{le};
 ghost use Rattle.le.specs.Memory.{put};
-ghost use Rattle.entry.specs.Submission.{submissionBytes, writeRefusal, written, submissionRead, submissionAnswer};
+ghost use Rattle.entry.specs.Submission.{submissionBytes, writeRefusal, written, submissionAnswer, readRefusal, submissionRead};
 
 // The fields of an entry. `cdw12_upper` is the upper half of CDW12, bytes 50 to 51; NLB is the lower.
 pub struct Submission {
@@ -93,7 +93,7 @@ pub fn write(buf: &mut [u8], e: Submission) -> u64
 // Reads the entry in the first 64 bytes of `buf`.
 pub fn read(buf: &[u8]) -> SubmissionRead
     ensures { λ r. ⌜ r ≡ submissionRead (now (buf .entry)) ⌝ }
-    ensures { λ r. ⌜ submissionAnswer r ≡ submissionAnswer (submissionRead (now (buf .entry))) ⌝ }
+    ensures { λ r. ⌜ submissionAnswer r .0 ≡ readRefusal (length (now (buf .entry))) ⌝ }
 {
     if buf.len() < 64 {
         return SubmissionRead::Refused(21);

@@ -9,11 +9,12 @@ use native.Mathlib.Omega.{arith}
 use lib.Dec.{eqb}
 use lib.ListN.{length}
 use Rattle.rules.proofs.Tests.{lt-or-ge}
-use Rattle.rules.proofs.Cases.{pick-cases, settle-cases}
+use Rattle.rules.proofs.Cases.{pick-cases, settle-cases, settle-number}
 use Rattle.rules.proofs.Exactly.{Says, says-is, says-lt, says-le, says-eq, says-not, says-as, says-outside, Reasons, Decided, decided}
 use Rattle.ring.specs.Slots.{next, distance, phaseAfter}
 use Rattle.ring.specs.Doorbell.{validTail, validHead, placeRules, checked, tailCheck, headCheck}
 use Rattle.ring.specs.Reader.{phaseIn, readCount, readerRules, readerRefusal, waitingAnswer, ringRead}
+use Rattle.ring.specs.declared.reader.Waiting.the-variants.{Refused}
 use Rattle.ring.proofs.Wrap.{Wrapped, low, high, wrapped}
 use Rattle.ring.proofs.Steps.{distance-ahead, distance-around, distance-self, next-on, next-over}
 use Rattle.ring.proofs.Doorbells.{valid-tail, valid-head, tail-adds, head-releases}
@@ -149,14 +150,19 @@ head-check size head tail v = check size head tail (says-head size head tail v)
 abbrev pub readerReasons : ℕ → ℕ → ℕ → Reasons
 readerReasons n size head = (WrongSize size, 3) ∷ (n < 16 * size, 5) ∷ (size ≤ head, 10) ∷ []
 
-pub reader-refusal : (ring : List ℕ) (size head phase : ℕ)
-    → Decided (readerReasons (length ring) size head) (waitingAnswer (ringRead ring size head phase) .0)
-unfolding ringRead readerRefusal
-reader-refusal ring size head phase =
-    let n = length ring in
-    let d = decided (readerRules n size head) (readerReasons n size head)
-    (refl, says-outside 2 1024 size, λ a. (refl, says-lt n (16 * size), λ b. (refl, says-le size head, λ c. tt))) in
-    settle-cases (λ r. Decided (readerReasons n size head) (waitingAnswer r .0)) (readerRefusal n size head) _ _ (λ z. rw z at d) (λ z. d)
+module _ (ring : List ℕ) (size head phase : ℕ) where
+  -- the number that it answers is its refusal
+  pub reader-number : waitingAnswer (ringRead ring size head phase) .0 ≡ readerRefusal (length ring) size head
+  unfolding ringRead
+  reader-number = settle-number (λ r. waitingAnswer r .0) (readerRefusal (length ring) size head) Refused _ (λ k. refl) refl
+
+  pub reader-refusal : Decided (readerReasons (length ring) size head) (waitingAnswer (ringRead ring size head phase) .0)
+  unfolding readerRefusal
+  reader-refusal =
+      let n = length ring in
+      rw reader-number
+      (decided (readerRules n size head) (readerReasons n size head)
+      (refl, says-outside 2 1024 size, λ a. (refl, says-lt n (16 * size), λ b. (refl, says-le size head, λ c. tt))))
 
 -- "at most size - 1 entries"
 count-most : (n : ℕ) (ring : List ℕ) (size p phase : ℕ) → readCount n ring size p phase ≤ n

@@ -68,7 +68,7 @@ fn refusal(bytes: usize, size: u64, head: u64) -> u64
 // How many completions wait in a ring, for a reader that stands at `head` and expects `phase` there.
 pub fn read(ring: &[u8], size: u64, head: u64, phase: u64) -> Waiting
     ensures { λ r. ⌜ r ≡ ringRead (now (ring .entry)) size head phase ⌝ }
-    ensures { λ r. ⌜ waitingAnswer r ≡ waitingAnswer (ringRead (now (ring .entry)) size head phase) ⌝ }
+    ensures { λ r. ⌜ waitingAnswer r .0 ≡ readerRefusal (length (now (ring .entry))) size head ⌝ }
 {
     let number = refusal(ring.len(), size, head);
     if number != 0 {

@@ -2,7 +2,7 @@
 use Prim.Native.Nat.{ℕ, _≤_}
 use mathlib.Core.Bool.{Bool, true, false, _&&_}
 use mathlib.Core.List.{[], _∷_}
-use mathlib.Core.Path.{_≡_, refl}
+use mathlib.Core.Path.{_≡_, refl, sym, _∙_}
 use native.Mathlib.Omega.{arith}
 use lib.Dec.{T, eqb, leb, leb→le}
 use borrow.Author.Tests.{eqb-true, eqb-false}
@@ -17,6 +17,10 @@ module _ {A : Type 0} (P : A → Type 0) where
   pub settle-cases : (n : ℕ) (f : ℕ → A) (x : A) → (n ≡ 0 → P x) → ((n ≡ 0 → ⊥) → P (f n)) → P (settle n f x)
   unfolding settle
   settle-cases n f x p q = pick-cases (eqb n 0) x (f n) (λ e. p (eqb-true n 0 e)) (λ e. q (eqb-false n 0 e))
+
+-- the number of what settles a call is that of the refusal: f gives each refusal its own, and 0 to what is accepted
+pub settle-number : {A : Type 0} (f : A → ℕ) (n : ℕ) (g : ℕ → A) (x : A) → ((k : ℕ) → f (g k) ≡ k) → f x ≡ 0 → f (settle n g x) ≡ n
+settle-number f n g x r a = settle-cases (λ y. f y ≡ n) n g x (λ z. a ∙ sym z) (λ d. r n)
 
 -- every row's number is at most n
 abbrev pub numbersTo : ℕ → Table → Bool

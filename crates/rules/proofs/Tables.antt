@@ -2,7 +2,7 @@
 use Prim.Native.Nat.{ℕ, _<_}
 use mathlib.Core.Bool.{Bool, true, false, _&&_}
 use mathlib.Core.List.{[], _∷_, _++_}
-use mathlib.Core.Path.{_≡_, refl, ap, subst}
+use mathlib.Core.Path.{_≡_, refl, ap, subst, _∙_}
 use native.Mathlib.Nat.{lt-irrefl}
 use lib.Dec.{T, ltb, ltb→lt}
 use borrow.Author.Tests.{eq-eqb, ne-eqb}
@@ -44,9 +44,9 @@ pub append-passed : (rs ss : Table) → Unapplied rs → firstMatch (rs ++ ss) �
 append-passed [] ss u = refl
 append-passed (r ∷ rs) ss u = rw (u .0) (append-passed rs ss (u .1))
 
--- an answer that is its definition's, and so in the numbers and values that f gives it
-pub told : {A B : Type 0} (f : A → B) {x y : A} → x ≡ y → (x ≡ y) × (f x ≡ f y)
-told f e = (e, ap f e)
+-- an answer that is its definition's, and so has the number n that f gives it
+pub told : {A : Type 0} (f : A → ℕ) {n : ℕ} {x y : A} → f y ≡ n → x ≡ y → (x ≡ y) × (f x ≡ n)
+told f h e = (e, ap f e ∙ h)
 
 module _ {A : Type 0} (n : ℕ) (refuse : ℕ → A) (accept : A) where
   pub settle-refused : (n ≡ 0 → ⊥) → settle n refuse accept ≡ refuse n

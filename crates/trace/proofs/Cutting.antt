@@ -8,7 +8,7 @@ use lib.ListN.{length, drop}
 use lib.Seq.{drop-drop}
 use Rattle.rules.proofs.Tests.{lt-or-ge}
 use Rattle.le.specs.Memory.{part}
-use Rattle.trace.specs.Trace.{begun, firstRecords, records, nextAt}
+use Rattle.trace.specs.Trace.{begun, firstRecords, nextAt}
 
 -- the records from a place on
 abbrev pub recordsFrom : List ℕ → ℕ → List (List ℕ)

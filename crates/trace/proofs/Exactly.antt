@@ -1,6 +1,6 @@
 -- The numbers of a record, exactly when: once more in propositions. Assumes nothing.
 use Prim.Native.Nat.{ℕ, zero, suc, _+_, _*_, _-_, _<_, _≤_}
-use mathlib.Core.Bool.{Bool, true, false, not}
+use mathlib.Core.Bool.{Bool, true, false}
 use mathlib.Core.List.{List, [], _∷_}
 use mathlib.Core.Logic.{_⊎_, inl, inr, ⊎-elim, _↔_}
 use mathlib.Core.Path.{_≡_, refl, sym, ap, _∙_}
@@ -8,14 +8,18 @@ use native.Mathlib.Omega.{arith}
 use lib.Dec.{eqb}
 use lib.ListN.{length, drop, getD, length-drop}
 use lib.Seq.{getD-drop}
+use borrow.Author.Tests.{lt-ltb, le-ltb, le-leb, lt-leb}
 use Rattle.rules.specs.Rules.{pick, firstMatch}
-use Rattle.rules.proofs.Tests.{clash, same-or-not, bool-cases}
-use Rattle.rules.proofs.Tables.{settle-accepted, settle-refused}
+use Rattle.rules.proofs.Tests.{clash, same-or-not, bool-cases, lt-or-ge}
+use Rattle.rules.proofs.Tables.{told, settle-accepted, settle-refused}
 use Rattle.rules.proofs.Exactly.{Says, says-lt, says-eq, says-not, says-or, says-as, says-outside, Reasons, Decided, decided, given-exactly}
 use Rattle.le.specs.Le.{leAt}
+use Rattle.le.specs.Memory.{part}
 use Rattle.controller.specs.Calls.{tailWrite, headWrite, start, finish}
+use Rattle.trace.specs.declared.Record.{Record}
 use Rattle.trace.specs.declared.Record.the-variants as R
-use Rattle.trace.specs.Record.{sent, target, value, anySet, spares, recordRules, callIn, recordIn, Asked, call, none, asked}
+use Rattle.trace.specs.Record.{sent, target, value, anySet, spares, recordRules, callIn, recordIn, call, asked, numberIn}
+use Rattle.trace.specs.Trace.{recordAt, refusalAt}
 use Rattle.trace.proofs.Wholes as w
 
 -- a byte from place n on is not zero
@@ -63,10 +67,6 @@ record-number r =
 
 -- ---- the number of what a record asks for is the table's: 0 for a call
 
-abbrev pub numberIn : Asked → ℕ
-numberIn (call x) = 0
-numberIn (none n) = n
-
 call-number : (a b c : Bool) (q v : ℕ)
     → numberIn (asked (pick a (R.TailWrite q v) (pick b (R.HeadWrite q v) (pick c R.Start (R.Finish q v))))) ≡ 0
 call-number true b c q v = refl
@@ -84,6 +84,16 @@ numbered r =
     ∙ sym z)
     (λ (d : n ≡ 0 → ⊥). ap (λ x. numberIn (asked x)) (settle-refused n R.Refused (callIn r) d))
     (same-or-not n 0)
+
+pub number-at : (t : List ℕ) (place : ℕ) → numberIn (asked (recordAt t place)) ≡ refusalAt t place
+unfolding recordAt
+number-at t place =
+    ⊎-elim (λ (h : place < length t). rw (lt-ltb place (length t) h, lt-leb (length t) place h) (numbered (part t place 16)))
+    (λ (h : length t ≤ place). rw (le-ltb place (length t) h, le-leb (length t) place h)) (lt-or-ge place (length t))
+
+pub answered : (t : List ℕ) (place : ℕ) {x : Record} → x ≡ recordAt t place
+    → (x ≡ recordAt t place) × (numberIn (asked x) ≡ refusalAt t place)
+answered t place e = told (λ y. numberIn (asked y)) (number-at t place) e
 
 -- 31 is the number of a short record alone
 pub short-exactly : (r : List ℕ) → (numberIn (asked (recordIn r)) ≡ 31) ↔ (length r < 16)

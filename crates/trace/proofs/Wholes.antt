@@ -112,6 +112,10 @@ module _ (t : List ℕ) (place : ℕ) where
 
 -- ---- what stands at a place
 
+pub ended : (t : List ℕ) (place : ℕ) → length t ≤ place → R.End ≡ recordAt t place
+unfolding recordAt
+ended t place h = rw (le-ltb place (length t) h)
+
 module _ (t : List ℕ) (place : ℕ) (h : place < length t) where
   pub there : recordIn (part t place 16) ≡ recordAt t place
   unfolding recordAt

@@ -57,6 +57,11 @@ asked (R.Finish tag status) = call (finish tag status 0)
 asked (R.Refused n) = none n
 asked R.End = none 0
 
+-- the number of what a record asks for: 0 for a call
+abbrev pub numberIn : Asked → ℕ
+numberIn (call x) = 0
+numberIn (none n) = n
+
 abbrev pub callsOf : Asked → List Call
 callsOf (call x) = x ∷ []
 callsOf (none n) = []

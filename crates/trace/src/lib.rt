@@ -5,8 +5,8 @@ ghost use lib.Dec.{eqb};
 ghost use lib.ListN.{length, drop};
 ghost use Rattle.rules.specs.Rules.{pick};
 ghost use Rattle.le.specs.Memory.{part};
-ghost use Rattle.trace.specs.Record.{anySet, recordIn, asked};
-ghost use Rattle.trace.specs.Trace.{recordAt, nextAt};
+ghost use Rattle.trace.specs.Record.{anySet, recordIn, asked, numberIn};
+ghost use Rattle.trace.specs.Trace.{recordAt, refusalAt, nextAt};
 
 // The bytes of a record.
 pub const RECORD_BYTES: usize = 16;
@@ -71,7 +71,7 @@ fn whole_at(trace: &[u8], at: usize) -> Record
 // The record that begins at a place.
 pub fn record_at(trace: &[u8], at: usize) -> Record
     ensures { λ r. ⌜ r ≡ recordAt (now (trace .entry)) at ⌝ }
-    ensures { λ r. ⌜ asked r ≡ asked (recordAt (now (trace .entry)) at) ⌝ }
+    ensures { λ r. ⌜ numberIn (asked r) ≡ refusalAt (now (trace .entry)) at ⌝ }
 {
     if trace.len() <= at {
         return Record::End;
@@ -105,7 +105,7 @@ pub fn new<'a>(trace: &'a [u8]) -> Reader<'a>
 // The record that a reader stands on.
 pub fn next<'a>(r: Reader<'a>) -> Record
     ensures { λ x. ⌜ x ≡ recordAt (now (r .entry .trace)) (r .entry .at) ⌝ }
-    ensures { λ x. ⌜ asked x ≡ asked (recordAt (now (r .entry .trace)) (r .entry .at)) ⌝ }
+    ensures { λ x. ⌜ numberIn (asked x) ≡ refusalAt (now (r .entry .trace)) (r .entry .at) ⌝ }
 {
     record_at(r.trace, r.at)
 }
@@ -123,7 +123,7 @@ pub fn moved<'a>(r: Reader<'a>) -> Reader<'a>
 // The record that a reader hands out at a place.
 pub fn read(trace: &[u8], at: usize) -> Record
     ensures { λ x. ⌜ x ≡ recordAt (now (trace .entry)) at ⌝ }
-    ensures { λ x. ⌜ asked x ≡ asked (recordAt (now (trace .entry)) at) ⌝ }
+    ensures { λ x. ⌜ numberIn (asked x) ≡ refusalAt (now (trace .entry)) at ⌝ }
 {
     next(Reader { trace, at })
 }

@@ -3,19 +3,19 @@ use borrow.Author.Tests.{lt-ltb, le-ltb}
 use Rattle.rules.specs.Rules.{settle}
 use Rattle.rules.proofs.Tables.{told}
 use Rattle.entry.specs.Submission.{submissionAt, submissionAnswer, submissionRead}
+use Rattle.entry.proofs.Exactly.{submission-number}
 use Rattle.entry.proofs.submission.read.Statement.{statement}
 use Rattle.entry.proofs.submission.read.Tie as tie
 
 returns : tie.Need-returns
 unfolding submissionRead settle
-returns c = told submissionAnswer (simp (lt-ltb _ _ (c .if1 .taken)))
+returns c = told (λ r. submissionAnswer r .0) (submission-number (c .before .before .args .buf .now)) (simp (lt-ltb _ _ (c .if1 .taken)))
 
 returns-2 : tie.Need-returns-2
 unfolding submissionRead submissionAt settle
 returns-2 c =
-    let e = le-ltb _ _
-    (c .before .before .before .before .before .before .before .before .before .before .before .before .before .if1 .left) in
-    told submissionAnswer (simp e (cc))
+    let long = c .before .before .before .before .before .before .before .before .before .before .before .before .before in
+    told (λ r. submissionAnswer r .0) (submission-number (long .before .before .args .buf .now)) (simp (le-ltb _ _ (long .if1 .left)) (cc))
 
 pub read-spec : {M : Type 1} → statement M
 read-spec =
