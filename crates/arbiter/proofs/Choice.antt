@@ -9,6 +9,7 @@ use lib.Dec.{ltb, lit<}
 use borrow.Author.Tests.{lt-ltb, ltb-true, ltb-false}
 use Rattle.rules.specs.Rules.{pick}
 use Rattle.rules.proofs.Tests.{bool-cases, clash, or-false, and-true}
+use Rattle.rules.proofs.Tables.{told}
 use Rattle.bits.specs.Bits.{isSet, first}
 use Rattle.bits.proofs.Bits.{set-within}
 use Rattle.bits.proofs.First.{first-hit, first-below}
@@ -30,7 +31,7 @@ use Rattle.arbiter.specs.Word.{burstOf}
 use Rattle.arbiter.specs.Turns.{nextAfter, aboveZero, takes, turn}
 use Rattle.arbiter.specs.Arbiter.{withGroup, withLevels, refilled, some, ready, levelFull, charged, levelTurn, someWaits, someReady}
 use Rattle.arbiter.specs.Arbiter.{toppedUp, ofTurn, ofLevel, orElse, byGroup, byLevel, byWeight, choice, chosenAnswer}
-use Rattle.arbiter.specs.Arbiter.{anyone, choiceRefusal}
+use Rattle.arbiter.specs.Arbiter.{nextAnswer, turnAnswer, levelAnswer, groupRefusal, levelRefusal, anyone, choiceRefusal}
 use Rattle.arbiter.proofs.Levels.{ready-parts, topped-refilled, topped-kept}
 
 -- ---- whether there is a candidate
@@ -218,7 +219,41 @@ module _ (P : ℕ → Type 0) where
         go (Queue i b) h = rw (h .0)
         go Nobody h = rw h
 
--- ---- masks of 16 bits name no other queues than 0 to 15, and then the answer has document 01's number
+-- ---- masks of 16 bits name no other queues than 0 to 15, and then each answer has document 01's number
+
+module _ (m : ℕ) (fits : m < 2 ^ 16) where
+  abbrev within : (i : ℕ) → isSet m i ≡ true → i < 16
+  within i = set-within 16 m i fits
+
+  next-number : (x : Next) → NextIs (λ i. i < 16) (some (isSet m)) x → nextAnswer x .0 ≡ groupRefusal (isSet m)
+  next-number (N.Id i) h = rw (h .0)
+  next-number N.Nobody h = rw h
+
+  turn-number : (g : Group) (x : Turn) → TurnIs (λ i. i < 16) (some (isSet m)) x → turnAnswer g x .0 ≡ groupRefusal (isSet m)
+  turn-number g (T.Served i left) h = rw (h .0)
+  turn-number g T.Idle h = rw h
+
+  level-number : (l : Level) (x : LevelTurn) → LevelIs (λ i. i < 16) (ready l (isSet m)) x
+      → levelAnswer l x .0 ≡ levelRefusal l (isSet m)
+  level-number l (L.Served i left) h = rw (h .0)
+  level-number l L.Idle h = rw h
+
+  pub next-answered : (h : ℕ) {x : Next} → x ≡ nextAfter (isSet m) h
+      → (x ≡ nextAfter (isSet m) h) × (nextAnswer x .0 ≡ groupRefusal (isSet m))
+  next-answered h e =
+      told (λ y. nextAnswer y .0) (next-number (nextAfter (isSet m) h) (next-is (λ i. i < 16) (λ i l. l) (isSet m) within h)) e
+
+  pub turn-answered : (full : Remainder) (g : Group) {x : Turn} → x ≡ turn full g (isSet m)
+      → (x ≡ turn full g (isSet m)) × (turnAnswer g x .0 ≡ groupRefusal (isSet m))
+  turn-answered full g e =
+      told (λ y. turnAnswer g y .0)
+      (turn-number g (turn full g (isSet m)) (turn-is (λ i. i < 16) (λ i l. l) (isSet m) within full g)) e
+
+  pub level-answered : (b : Remainder) (l : Level) {x : LevelTurn} → x ≡ levelTurn b l (isSet m)
+      → (x ≡ levelTurn b l (isSet m)) × (levelAnswer l x .0 ≡ levelRefusal l (isSet m))
+  level-answered b l e =
+      told (λ y. levelAnswer l y .0)
+      (level-number l (levelTurn b l (isSet m)) (level-is (λ i. i < 16) (λ i l. l) (isSet m) within b l)) e
 
 pub record Fits (c : Candidates) : Type 0 where
   pub all : c .all < 2 ^ 16
@@ -239,7 +274,7 @@ module _ (c : Candidates) (f : Fits c) where
       }
 
   pub answered : (a : Arbiter) {x : Chosen} → x ≡ choice a c → (x ≡ choice a c) × (chosenAnswer a x .0 ≡ choiceRefusal a c)
-  answered a e = (e, ap (λ y. chosenAnswer a y .0) e ∙ refusal (λ i. i < 16) (λ i h. h) c fits-within a)
+  answered a e = told (λ y. chosenAnswer a y .0) (refusal (λ i. i < 16) (λ i h. h) c fits-within a) e
 
 -- ---- where the masks of the classes are parts of the mask of all queues, the queue that is named is in that mask
 

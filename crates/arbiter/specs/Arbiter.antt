@@ -7,6 +7,8 @@ use Rattle.rules.specs.Rules.{pick, firstMatch}
 use Rattle.bits.specs.Bits.{isSet, someBelow}
 use Rattle.arbiter.specs.declared.Remainder.{Remainder}
 use Rattle.arbiter.specs.declared.Remainder.the-variants.{Left, NoLimit}
+use Rattle.arbiter.specs.declared.Next.{Next}
+use Rattle.arbiter.specs.declared.Next.the-variants as N
 use Rattle.arbiter.specs.declared.Turn.{Turn}
 use Rattle.arbiter.specs.declared.Turn.the-variants.{Served, Idle}
 use Rattle.arbiter.specs.declared.Group.{Group}
@@ -131,6 +133,28 @@ unfoldable pub choice : Arbiter → Candidates → Chosen
 choice a c = pick (a .weighted) (byWeight a c) (byGroup a (isSet (c .all)))
 
 -- ---- document 01's number and values for each answer
+
+-- 0 and the queue that takes the turn; 12 and no queue
+abbrev pub nextAnswer : Next → ℕ × ℕ
+nextAnswer (N.Id i) = (0, i)
+nextAnswer N.Nobody = (12, 0)
+
+-- 0, the queue that is served and the group that is left; 12, no queue and the group as it was
+abbrev pub turnAnswer : Group → Turn → ℕ × ℕ × Group
+turnAnswer g (Served i left) = (0, i, left)
+turnAnswer g Idle = (12, 0, g)
+
+-- the same of a level
+abbrev pub levelAnswer : Level → LevelTurn → ℕ × ℕ × Level
+levelAnswer l (L.Served i left) = (0, i, left)
+levelAnswer l L.Idle = (12, 0, l)
+
+-- "no SQ is a candidate": none of a group; none of a level, or one without credit
+abbrev pub groupRefusal : (ℕ → Bool) → ℕ
+groupRefusal p = firstMatch ((not (some p), 12) ∷ [])
+
+abbrev pub levelRefusal : Level → (ℕ → Bool) → ℕ
+levelRefusal l p = firstMatch ((not (ready l p), 12) ∷ [])
 
 -- 0, the queue that is served and the arbiter that is left; 12, no queue and the arbiter as it was
 abbrev pub chosenAnswer : Arbiter → Chosen → ℕ × ℕ × Arbiter

@@ -1,6 +1,6 @@
 -- Turns within a group of queues. The group's candidates are a test on ids.
 use Prim.Native.Nat.{ℕ, _+_, _-_, _%_}
-use mathlib.Core.Bool.{Bool, true, _&&_}
+use mathlib.Core.Bool.{Bool, true, false, _&&_}
 use lib.Dec.{ltb}
 use Rattle.rules.specs.Rules.{pick}
 use Rattle.bits.specs.Bits.{first}
@@ -26,6 +26,11 @@ nextAfter p h =
 abbrev pub aboveZero : Remainder → Bool
 aboveZero (Left n) = ltb 0 n
 aboveZero NoLimit = true
+
+-- a remainder in document 01's words: whether it is without limit, and how much is left where it is not
+abbrev pub remainderAnswer : Remainder → Bool × ℕ
+remainderAnswer (Left n) = (false, n)
+remainderAnswer NoLimit = (true, 0)
 
 -- "Serving lowers the remainder by one; a remainder without limit stays so."
 abbrev pub lowered : Remainder → Remainder

@@ -1,12 +1,15 @@
 // Arbitration: which submission queue is served next. Candidates are 16-bit masks, bit n for queue n.
 // Tests are joined by `&` and `|`, which do not branch.
 ghost use mathlib.Core.Path.{_≡_};
-ghost use Prim.Native.Nat.{_<_};
+ghost use mathlib.Core.Bool.{false};
+ghost use Prim.Native.Nat.{_%_, _<_};
+ghost use lib.Dec.{eqb};
 ghost use Rattle.bits.specs.Bits.{isSet};
 ghost use Rattle.arbiter.specs.Word.{burstOf, weightAt};
-ghost use Rattle.arbiter.specs.Turns.{nextAfter, aboveZero, lowered, served, turn};
+ghost use Rattle.arbiter.specs.Turns.{nextAfter, aboveZero, remainderAnswer, lowered, served, turn};
 ghost use Rattle.arbiter.specs.Arbiter.{some, levelFull, ready, levelTurn, fresh, refilled, someWaits, someReady, toppedUp, byGroup};
-ghost use Rattle.arbiter.specs.Arbiter.{byLevel, byWeight, choice, chosenAnswer, choiceRefusal};
+ghost use Rattle.arbiter.specs.Arbiter.{byLevel, byWeight, choice, nextAnswer, turnAnswer, levelAnswer};
+ghost use Rattle.arbiter.specs.Arbiter.{groupRefusal, levelRefusal, chosenAnswer, choiceRefusal};
 
 // What is left of a turn.
 pub enum Remainder {
@@ -84,6 +87,7 @@ fn has_candidate(mask: u16) -> bool
 // The burst that the feature word grants.
 fn burst(word: u32) -> Remainder
     ensures { λ r. ⌜ r ≡ burstOf word ⌝ }
+    ensures { λ r. ⌜ remainderAnswer r .0 ≡ eqb (word % 8) 7 ⌝ }
 {
     let exponent = word % 8;
     if exponent == 7 {
@@ -112,6 +116,7 @@ fn above_zero(r: Remainder) -> bool
 
 fn lower(r: Remainder) -> Remainder
     ensures { λ s. ⌜ s ≡ lowered r ⌝ }
+    ensures { λ s. ⌜ remainderAnswer s .0 ≡ remainderAnswer r .0 ⌝ }
 {
     match r {
         Remainder::Left(n) => {
@@ -129,6 +134,7 @@ fn lower(r: Remainder) -> Remainder
 // candidates come in the order of their turns, and the trailing zeros are the ids that are passed over.
 fn next_turn(mask: u16, holder: u32) -> Next
     ensures { λ r. ⌜ r ≡ nextAfter (isSet mask) holder ⌝ }
+    ensures { λ r. ⌜ nextAnswer r .0 ≡ groupRefusal (isSet mask) ⌝ }
 {
     if mask == 0 {
         return Next::Nobody;
@@ -142,6 +148,7 @@ fn next_turn(mask: u16, holder: u32) -> Next
 // Queue `id` is served out of the remainder `r`, and holds the turn.
 fn serve(id: u32, r: Remainder) -> Turn
     ensures { λ s. ⌜ s ≡ served id r ⌝ }
+    ensures { λ s. ⌜ ((g : Group) → turnAnswer g s .0 ≡ 0) ⌝ }
 {
     Turn::Served(
         id,
@@ -156,6 +163,7 @@ impl Group {
     // The holder goes on, or the next candidate takes the turn with the remainder `full`.
     fn turn(self, full: Remainder, mask: u16) -> Turn
         ensures { λ r. ⌜ r ≡ turn full self (isSet mask) ⌝ }
+        ensures { λ r. ⌜ turnAnswer self r .0 ≡ groupRefusal (isSet mask) ⌝ }
     {
         let holder = self.holder;
         let left = self.remainder;
@@ -172,6 +180,7 @@ impl Group {
 // The smaller of burst and credit.
 fn level_full(b: Remainder, credit: u32) -> Remainder
     ensures { λ r. ⌜ r ≡ levelFull b credit ⌝ }
+    ensures { λ r. ⌜ remainderAnswer r .0 ≡ false ⌝ }
 {
     match b {
         Remainder::Left(n) => {
@@ -196,6 +205,7 @@ impl Level {
     // A turn at the burst `b`, which costs one credit.
     fn turn(self, b: Remainder, mask: u16) -> LevelTurn
         ensures { λ r. ⌜ r ≡ levelTurn b self (isSet mask) ⌝ }
+        ensures { λ r. ⌜ levelAnswer self r .0 ≡ levelRefusal self (isSet mask) ⌝ }
     {
         if !self.is_ready(mask) {
             return LevelTurn::Idle;

@@ -4,10 +4,10 @@ use Rattle.arbiter.proofs.lower.Statement.{statement}
 use Rattle.arbiter.proofs.lower.Tie as tie
 
 returns : tie.Need-returns
-returns c = cc
+returns c = ((cc), (cc))
 
 returns-2 : tie.Need-returns-2
-returns-2 c = cc
+returns-2 c = ((cc), (cc))
 
 pub lower-spec : {M : Type 1} → statement M
 lower-spec =
