@@ -7,4 +7,5 @@ pub mod Outcomes
 pub mod Between
 pub mod Buffers
 pub mod Whole
+pub mod Numbers
 pub mod Facts

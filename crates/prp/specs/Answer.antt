@@ -1,9 +1,13 @@
 -- The answer of the page walk, and what the walk leaves in its buffers.
-use Prim.Native.Nat.{ℕ, _+_}
+use Prim.Native.Nat.{ℕ, _+_, _-_, _*_, _%_}
+use mathlib.Core.Bool.{not, _&&_}
 use mathlib.Core.List.{List, [], _∷_, _++_}
+use lib.Dec.{leb, ltb, eqb}
 use lib.ListN.{length}
+use Rattle.rules.specs.Rules.{pick, Table, firstMatch, settle}
 use Rattle.le.specs.Le.{le}
-use Rattle.prp.specs.Walk.{Walk, refused, found}
+use Rattle.prp.specs.Pages.{pageSize, pagesTouched}
+use Rattle.prp.specs.Walk.{Walk, refused, found, list, beforeWalk}
 use Rattle.prp.specs.declared.Walked.{Walked}
 use Rattle.prp.specs.declared.Walked.the-variants.{Pages, Refused}
 
@@ -29,6 +33,29 @@ pagesOf (Refused number) = 0
 abbrev pub readsOf : Walked → ℕ
 readsOf (Pages n reads) = reads
 readsOf (Refused number) = 0
+
+-- The refusals from PRP2 on, n pages being touched: PRP2 as a page, PRP2 as the address of a list, and what the list comes to.
+abbrev pub prp2Rules : ℕ → List ℕ → ℕ → ℕ → Table
+prp2Rules page m prp2 n =
+    (eqb n 2 && not (eqb (prp2 % page) 0), 18)
+    ∷ (ltb 2 n && not (eqb (prp2 % 8) 0), 18)
+    ∷ (ltb 2 n, refusalOf (answer (list page m (n - 1) prp2)))
+    ∷ []
+
+-- "page walk 20, 22, then 18 for PRP1, 21, then 18 before 19 at each later pointer or entry in reading order"
+unfoldable pub walkRefusal : List ℕ → ℕ → ℕ → ℕ → ℕ → ℕ → ℕ → ℕ
+walkRefusal m prp1 prp2 len k addressRoom countRoom =
+    firstMatch (beforeWalk prp1 len k addressRoom countRoom ++ prp2Rules (pageSize k) m prp2 (pagesTouched (pageSize k) prp1 len))
+
+-- "the number of list entries read, pointers included", for n pages: none up to two pages; else one for each page after the first, and
+-- one more, the pointer, where these do not fit into the rest of the list's first page. A second list page holds all that are left.
+abbrev pub entriesRead : ℕ → ℕ → ℕ → ℕ
+entriesRead page prp2 n = pick (ltb 2 n) (n - 1 + pick (leb (prp2 % page + 8 * (n - 1)) page) 0 1) 0
+
+unfoldable pub walkReads : List ℕ → ℕ → ℕ → ℕ → ℕ → ℕ → ℕ → ℕ
+walkReads m prp1 prp2 len k addressRoom countRoom =
+    settle (walkRefusal m prp1 prp2 len k addressRoom countRoom) (λ x. 0)
+    (entriesRead (pageSize k) prp2 (pagesTouched (pageSize k) prp1 len))
 
 -- the addresses that a walk found: none beside a refusal, which "changes nothing"
 unfoldable pub addressesOf : Walk → List ℕ

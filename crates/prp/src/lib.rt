@@ -7,7 +7,8 @@ ghost use Rattle.rules.specs.Rules.{firstMatch};
 ghost use Rattle.le.specs.Memory.{put};
 ghost use Rattle.prp.specs.Pages.{longest, mostPages, pageSize, pagesTouched, byteCounts};
 ghost use Rattle.prp.specs.Walk.{inMemory, list, dataPages, beforeWalk, pageWalk};
-ghost use Rattle.prp.specs.Answer.{answer, counted, pagesOf, addressesOf, numbers, Found};
+ghost use Rattle.prp.specs.Answer.{answer, counted, refusalOf, pagesOf, readsOf, walkRefusal, walkReads};
+ghost use Rattle.prp.specs.Answer.{addressesOf, numbers, Found};
 
 // The longest transfer, in bytes.
 const MOST_BYTES: u64 = 1048576;
@@ -227,6 +228,10 @@ pub fn walk(
       ⌜ now (addresses .exit) ≡ put (now (addresses .entry)) 0 (numbers 8 (addressesOf
           (pageWalk (now (memory .entry)) prp1 prp2 len page (← ⟦addresses.len()⟧ .entry) (← ⟦counts.len()⟧ .entry)))) ⌝ }
     ensures { λ r. ⌜ now (counts .exit) ≡ put (now (counts .entry)) 0 (numbers 4 (byteCounts (pageSize page) prp1 len (pagesOf r))) ⌝ }
+    ensures { λ r. do
+      ⌜ refusalOf r ≡ walkRefusal (now (memory .entry)) prp1 prp2 len page (← ⟦addresses.len()⟧ .entry) (← ⟦counts.len()⟧ .entry) ⌝ }
+    ensures { λ r. do
+      ⌜ readsOf r ≡ walkReads (now (memory .entry)) prp1 prp2 len page (← ⟦addresses.len()⟧ .entry) (← ⟦counts.len()⟧ .entry) ⌝ }
 {
     let refusal = refusal_before_walk(prp1, len, page, addresses.len(), counts.len());
     if refusal != 0 {

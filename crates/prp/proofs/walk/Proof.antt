@@ -1,5 +1,5 @@
 use borrow.Author.Needs.{needs}
-use mathlib.Core.Path.{_≡_, refl, _∙_}
+use mathlib.Core.Path.{_≡_, refl, sym, ap, _∙_}
 use Prim.Native.Nat.{_*_, _≤_}
 use lib.ListN.{length}
 use Rattle.rules.proofs.Tables.{settle-refused, settle-accepted}
@@ -11,6 +11,7 @@ use Rattle.prp.proofs.Touched.{page-low, page-eight}
 use Rattle.prp.proofs.Addresses.{pages-length}
 use Rattle.prp.proofs.Outcomes.{Accepted}
 use Rattle.prp.proofs.Whole.{accepted, none-found, all-found}
+use Rattle.prp.proofs.Numbers.{InNumbers, in-numbers, in-numbers-before}
 use Rattle.prp.proofs.walk.Statement.{statement}
 use Rattle.prp.proofs.walk.Tie as tie
 
@@ -25,7 +26,13 @@ ready c = accepted (c .before .refusal-before-walk .ensures) (c .if1 .left)
 
 returns : tie.Need-returns
 unfolding pageWalk answer addressesOf numbers byteCounts split put
-returns c = rw (← c .before .refusal-before-walk .ensures, settle-refused _ refused _ (c .if1 .taken)) (refl, (refl, refl))
+returns c =
+    let a = c .before .before .before .before .before .args in
+    let is = c .before .refusal-before-walk .ensures in
+    let n =
+    in-numbers-before (a .memory .now) (a .prp1) (a .prp2) (a .len) (a .page) (length (a .addresses .now)) (length (a .counts .now)) _ is
+    (c .if1 .taken) in
+    rw (← is, settle-refused _ refused _ (c .if1 .taken)) (refl, (refl, (refl, n)))
 
 pages-touched-requires : tie.Need-pages-touched-requires
 pages-touched-requires c κs = (ready c .size, ready c .right)
@@ -70,6 +77,13 @@ good e =
     let eight = page-eight k 0 .0 in
     (f .0, f .1 ∙ pages-length (pageSize k) (a .memory .now) (a .prp1) (a .prp2) (page-low k) eight _ (n .0) (n .1) (f .0))
 
+-- the numbers of the answer
+numbered : (d : tie.After-data-pages) → let a = entry (d .before .before) .args in
+    InNumbers (a .memory .now) (a .prp1) (a .prp2) (a .len) (a .page) (length (a .addresses .now)) (length (a .counts .now))
+    (d .data-pages .result)
+numbered d =
+    in-numbers _ _ _ _ _ _ _ _ (d .data-pages .ensures (entry (d .before .before) .args .prp1) ∙ ap answer (sym (walked (d .before))))
+
 store-counts-requires : tie.Need-store-counts-requires
 store-counts-requires c κs =
     let t = c .before .before .before .before in
@@ -87,8 +101,9 @@ returns-2 c =
     let s = c .before .before .before .before .before .before in
     let e = s .before .before in
     let d = e .before .before in
+    let is = d .data-pages .ensures (entry (d .before .before) .args .prp1) in
     rw (walked (d .before), good e .1)
-    (d .data-pages .ensures _, (c .before .before .store-addresses .ensures, s .store-counts .ensures))
+    (is, (c .before .before .store-addresses .ensures, (s .store-counts .ensures, numbered d)))
 
 returns-3 : tie.Need-returns-3
 unfolding numbers byteCounts split put
@@ -96,7 +111,7 @@ returns-3 c =
     let d = c .before .before in
     let is = d .data-pages .ensures (entry (d .before .before) .args .prp1) in
     let f = none-found (pages (d .before)) is (c .enum-told2 .given .1) in
-    rw (walked (d .before), f .0, f .1) (is, (refl, refl))
+    rw (walked (d .before), f .0, f .1) (is, (refl, (refl, numbered d)))
 
 pub walk-spec : {M : Type 1} → statement M
 walk-spec =
