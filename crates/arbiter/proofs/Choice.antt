@@ -9,7 +9,7 @@ use lib.Dec.{ltb, lit<}
 use borrow.Author.Tests.{lt-ltb, ltb-true, ltb-false}
 use Rattle.rules.specs.Rules.{pick}
 use Rattle.rules.proofs.Tests.{bool-cases, clash, or-false, and-true}
-use Rattle.rules.proofs.Tables.{told}
+use Rattle.rules.proofs.Tables.{answer-number}
 use Rattle.bits.specs.Bits.{isSet, first}
 use Rattle.bits.proofs.Bits.{set-within}
 use Rattle.bits.proofs.First.{first-hit, first-below}
@@ -30,9 +30,9 @@ use Rattle.arbiter.specs.declared.Chosen.the-variants.{Queue, Nobody}
 use Rattle.arbiter.specs.Word.{burstOf}
 use Rattle.arbiter.specs.Turns.{nextAfter, aboveZero, takes, turn}
 use Rattle.arbiter.specs.Arbiter.{withGroup, withLevels, refilled, some, ready, levelFull, charged, levelTurn, someWaits, someReady}
-use Rattle.arbiter.specs.Arbiter.{toppedUp, ofTurn, ofLevel, orElse, byGroup, byLevel, byWeight, choice, chosenAnswer}
+use Rattle.arbiter.specs.Arbiter.{refilledIfDue, ofTurn, ofLevel, orElse, byGroup, byLevel, byWeight, choice, chosenAnswer}
 use Rattle.arbiter.specs.Arbiter.{nextAnswer, turnAnswer, levelAnswer, groupRefusal, levelRefusal, anyone, choiceRefusal}
-use Rattle.arbiter.proofs.Levels.{ready-parts, topped-refilled, topped-kept}
+use Rattle.arbiter.proofs.Levels.{ready-parts, due-refilled, not-due-kept}
 
 -- ---- whether there is a candidate
 
@@ -46,7 +46,7 @@ module _ (p : ℕ → Bool) where
       and-yes true = refl
       and-yes false = refl
 
--- once topped up, a level is ready exactly if a level has a candidate
+-- once refilled where that is due, a level is ready exactly if a level has a candidate
 module _ (a : Arbiter) (c : Candidates) where
   none-ready : someWaits c ≡ false → someReady a c ≡ false
   unfolding someWaits someReady ready
@@ -63,13 +63,13 @@ module _ (a : Arbiter) (c : Candidates) where
         ready-full (isSet (c .low)) (refilled a .low) (omega arith),
       )
 
-  topped-ready : someReady (toppedUp a c) c ≡ someWaits c
-  topped-ready =
+  refilled-if-due-ready : someReady (refilledIfDue a c) c ≡ someWaits c
+  refilled-if-due-ready =
       ⊎-elim
       (λ (w : someWaits c ≡ true).
-      ⊎-elim (λ (r : someReady a c ≡ true). rw (← topped-kept a c refl refl (rw (w, r))) (r ∙ sym w))
-      (λ (r : someReady a c ≡ false). rw (← topped-refilled a c refl refl refl (rw (w, r))) refilled-ready) (bool-cases (someReady a c)))
-      (λ (w : someWaits c ≡ false). rw (← topped-kept a c refl refl (rw w)) (none-ready w ∙ sym w)) (bool-cases (someWaits c))
+      ⊎-elim (λ (r : someReady a c ≡ true). rw (← not-due-kept a c refl refl (rw (w, r))) (r ∙ sym w))
+      (λ (r : someReady a c ≡ false). rw (← due-refilled a c refl refl refl (rw (w, r))) refilled-ready) (bool-cases (someReady a c)))
+      (λ (w : someWaits c ≡ false). rw (← not-due-kept a c refl refl (rw w)) (none-ready w ∙ sym w)) (bool-cases (someWaits c))
 
 -- ---- what each answer says: it names a queue of which P holds where b is true, and nobody where b is false
 
@@ -190,9 +190,9 @@ module _ (P : ℕ → Type 0) where
         ⊎-elim (λ (e : isSet (c .all) 0 ≡ true). rw e (refl, w .all 0 e))
         (λ (e : isSet (c .all) 0 ≡ false).
         rw e
-        (or-is (some (isSet (c .urgent))) (someWaits c) (byGroup a (isSet (c .urgent))) (byLevel (toppedUp a c) c)
+        (or-is (some (isSet (c .urgent))) (someWaits c) (byGroup a (isSet (c .urgent))) (byLevel (refilledIfDue a c) c)
         (group-is low (isSet (c .urgent)) (w .urgent) a)
-        (rw (topped-ready a c) at (levels-is (toppedUp a c)))))
+        (rw (refilled-if-due-ready a c) at (levels-is (refilledIfDue a c)))))
         (bool-cases (isSet (c .all) 0))
 
     choice-is : (a : Arbiter) → ChosenIs (anyone a c) (choice a c)
@@ -241,18 +241,18 @@ module _ (m : ℕ) (fits : m < 2 ^ 16) where
   pub next-answered : (h : ℕ) {x : Next} → x ≡ nextAfter (isSet m) h
       → (x ≡ nextAfter (isSet m) h) × (nextAnswer x .0 ≡ groupRefusal (isSet m))
   next-answered h e =
-      told (λ y. nextAnswer y .0) (next-number (nextAfter (isSet m) h) (next-is (λ i. i < 16) (λ i l. l) (isSet m) within h)) e
+      answer-number (λ y. nextAnswer y .0) (next-number (nextAfter (isSet m) h) (next-is (λ i. i < 16) (λ i l. l) (isSet m) within h)) e
 
   pub turn-answered : (full : Remainder) (g : Group) {x : Turn} → x ≡ turn full g (isSet m)
       → (x ≡ turn full g (isSet m)) × (turnAnswer g x .0 ≡ groupRefusal (isSet m))
   turn-answered full g e =
-      told (λ y. turnAnswer g y .0)
+      answer-number (λ y. turnAnswer g y .0)
       (turn-number g (turn full g (isSet m)) (turn-is (λ i. i < 16) (λ i l. l) (isSet m) within full g)) e
 
   pub level-answered : (b : Remainder) (l : Level) {x : LevelTurn} → x ≡ levelTurn b l (isSet m)
       → (x ≡ levelTurn b l (isSet m)) × (levelAnswer l x .0 ≡ levelRefusal l (isSet m))
   level-answered b l e =
-      told (λ y. levelAnswer l y .0)
+      answer-number (λ y. levelAnswer l y .0)
       (level-number l (levelTurn b l (isSet m)) (level-is (λ i. i < 16) (λ i l. l) (isSet m) within b l)) e
 
 pub record Fits (c : Candidates) : Type 0 where
@@ -274,7 +274,7 @@ module _ (c : Candidates) (f : Fits c) where
       }
 
   pub answered : (a : Arbiter) {x : Chosen} → x ≡ choice a c → (x ≡ choice a c) × (chosenAnswer a x .0 ≡ choiceRefusal a c)
-  answered a e = told (λ y. chosenAnswer a y .0) (refusal (λ i. i < 16) (λ i h. h) c fits-within a) e
+  answered a e = answer-number (λ y. chosenAnswer a y .0) (refusal (λ i. i < 16) (λ i h. h) c fits-within a) e
 
 -- ---- where the masks of the classes are parts of the mask of all queues, the queue that is named is in that mask
 

@@ -18,7 +18,7 @@ use Rattle.arbiter.specs.declared.LevelTurn.the-variants.{Served, Idle}
 use Rattle.arbiter.specs.declared.Arbiter.{Arbiter}
 use Rattle.arbiter.specs.declared.Candidates.{Candidates}
 use Rattle.arbiter.specs.Turns.{turn}
-use Rattle.arbiter.specs.Arbiter.{refilled, some, ready, levelFull, charged, levelTurn, someWaits, someReady, toppedUp}
+use Rattle.arbiter.specs.Arbiter.{refilled, some, ready, levelFull, charged, levelTurn, someWaits, someReady, refilledIfDue}
 use Rattle.arbiter.proofs.TurnOrder.{ComesNext, Over, group, goes-on, passes-on}
 use Rattle.arbiter.proofs.Levels.{ready-parts, level-idle, level-turn}
 
@@ -103,8 +103,8 @@ module _ (p : ℕ → Bool) where
 -- ---- the refill
 
 -- a level with a candidate has no credit
-abbrev pub Dry : Level → (ℕ → Bool) → Type 0
-Dry l p = Has p → l .credit ≡ 0
+abbrev pub NoCredit : Level → (ℕ → Bool) → Type 0
+NoCredit l p = Has p → l .credit ≡ 0
 
 module _ (a : Arbiter) (c : Candidates) where
   abbrev high : ℕ → Bool
@@ -118,7 +118,7 @@ module _ (a : Arbiter) (c : Candidates) where
 
   -- "levels have candidates but none of these has credit"
   abbrev pub Due : Type 0
-  Due = (Has high ⊎ Has medium ⊎ Has low) × Dry (a .high) high × Dry (a .medium) medium × Dry (a .low) low
+  Due = (Has high ⊎ Has medium ⊎ Has low) × NoCredit (a .high) high × NoCredit (a .medium) medium × NoCredit (a .low) low
 
   waits : someWaits c ≡ true → Has high ⊎ Has medium ⊎ Has low
   unfolding someWaits
@@ -136,38 +136,38 @@ module _ (a : Arbiter) (c : Candidates) where
       ⊎-elim (λ (h : Has high). clash (has-some high h) (g .0))
       (⊎-elim (λ (h : Has medium). clash (has-some medium h) (g .1)) (λ (h : Has low). clash (has-some low h) (f .1))) w
 
-  dry : (l : Level) (p : ℕ → Bool) → ready l p ≡ false → Dry l p
-  dry l p e h =
+  no-credit : (l : Level) (p : ℕ → Bool) → ready l p ≡ false → NoCredit l p
+  no-credit l p e h =
       ⊎-elim (λ (z : l .credit ≡ 0). z) (λ (u : 0 < l .credit). absurd (clash (is-ready p l (h, u)) e)) (eq-zero-or-pos (l .credit))
 
-  all-dry : someReady a c ≡ false → Dry (a .high) high × Dry (a .medium) medium × Dry (a .low) low
+  none-has-credit : someReady a c ≡ false → NoCredit (a .high) high × NoCredit (a .medium) medium × NoCredit (a .low) low
   unfolding someReady
-  all-dry e =
+  none-has-credit e =
       let f = or-false (ready (a .high) high || ready (a .medium) medium) (ready (a .low) low) e in
       let g = or-false (ready (a .high) high) (ready (a .medium) medium) (f .0) in
-      (dry (a .high) high (g .0), dry (a .medium) medium (g .1), dry (a .low) low (f .1))
+      (no-credit (a .high) high (g .0), no-credit (a .medium) medium (g .1), no-credit (a .low) low (f .1))
 
-  wet : (l : Level) (p : ℕ → Bool) → ready l p ≡ true → Dry l p → ⊥
-  wet l p e d = let r = ready-is p l e in omega (arith, r .1, d (r .0))
+  has-credit : (l : Level) (p : ℕ → Bool) → ready l p ≡ true → NoCredit l p → ⊥
+  has-credit l p e d = let r = ready-is p l e in omega (arith, r .1, d (r .0))
 
-  not-all-dry : someReady a c ≡ true → Dry (a .high) high → Dry (a .medium) medium → Dry (a .low) low → ⊥
+  some-credit : someReady a c ≡ true → NoCredit (a .high) high → NoCredit (a .medium) medium → NoCredit (a .low) low → ⊥
   unfolding someReady
-  not-all-dry e h m l =
+  some-credit e h m l =
       ⊎-elim
       (λ (f : (ready (a .high) high || ready (a .medium) medium) ≡ true).
-      ⊎-elim (λ (g : ready (a .high) high ≡ true). wet (a .high) high g h)
-      (λ (g : ready (a .medium) medium ≡ true). wet (a .medium) medium g m) (or-true _ _ f))
-      (λ (f : ready (a .low) low ≡ true). wet (a .low) low f l) (or-true (ready (a .high) high || ready (a .medium) medium) _ e)
+      ⊎-elim (λ (g : ready (a .high) high ≡ true). has-credit (a .high) high g h)
+      (λ (g : ready (a .medium) medium ≡ true). has-credit (a .medium) medium g m) (or-true _ _ f))
+      (λ (f : ready (a .low) low ≡ true). has-credit (a .low) low f l) (or-true (ready (a .high) high || ready (a .medium) medium) _ e)
 
   -- "if levels have candidates but none of these has credit, all three refill first", and otherwise nothing changes
-  pub refill-exact : (Due × (toppedUp a c ≡ refilled a)) ⊎ ((Due → ⊥) × (toppedUp a c ≡ a))
-  unfolding toppedUp
+  pub refill-exact : (Due × (refilledIfDue a c ≡ refilled a)) ⊎ ((Due → ⊥) × (refilledIfDue a c ≡ a))
+  unfolding refilledIfDue
   refill-exact =
       ⊎-elim
       (λ (w : someWaits c ≡ true).
       ⊎-elim
-      (λ (r : someReady a c ≡ true). inr (λ d. not-all-dry r (d .1) (d .2) (d .3), rw (w, r)))
+      (λ (r : someReady a c ≡ true). inr (λ d. some-credit r (d .1) (d .2) (d .3), rw (w, r)))
       (λ (r : someReady a c ≡ false).
-      let d = all-dry r in inl ((waits w, d .0, d .1, d .2), rw (w, r)))
+      let d = none-has-credit r in inl ((waits w, d .0, d .1, d .2), rw (w, r)))
       (bool-cases (someReady a c)))
       (λ (w : someWaits c ≡ false). inr (λ d. nobody-waits w (d .0), rw w)) (bool-cases (someWaits c))

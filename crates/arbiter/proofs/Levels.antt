@@ -16,7 +16,7 @@ use Rattle.arbiter.specs.declared.LevelTurn.the-variants.{Idle}
 use Rattle.arbiter.specs.declared.Arbiter.{Arbiter}
 use Rattle.arbiter.specs.declared.Candidates.{Candidates}
 use Rattle.arbiter.specs.Turns.{turn}
-use Rattle.arbiter.specs.Arbiter.{some, levelFull, ready, charged, levelTurn, refilled, someWaits, someReady, toppedUp}
+use Rattle.arbiter.specs.Arbiter.{some, levelFull, ready, charged, levelTurn, refilled, someWaits, someReady, refilledIfDue}
 
 -- a mask has a candidate exactly if it is not 0
 pub some-pos : (m : ℕ) → m < 2 ^ 16 → ltb 0 m ≡ some (isSet m)
@@ -41,10 +41,10 @@ module _ (b : Remainder) (l : Level) (p : ℕ → Bool) where
 
 module _ (a : Arbiter) (c : Candidates) where
   module _ {x y : Bool} (e : x ≡ someWaits c) (f : y ≡ someReady a c) where
-    pub topped-refilled : {r : Arbiter} → r ≡ refilled a → (x && not y) ≡ true → r ≡ toppedUp a c
-    unfolding toppedUp
-    topped-refilled q t = rw (← e, ← f, t) q
+    pub due-refilled : {r : Arbiter} → r ≡ refilled a → (x && not y) ≡ true → r ≡ refilledIfDue a c
+    unfolding refilledIfDue
+    due-refilled q t = rw (← e, ← f, t) q
 
-    pub topped-kept : (x && not y) ≡ false → a ≡ toppedUp a c
-    unfolding toppedUp
-    topped-kept t = rw (← e, ← f, t)
+    pub not-due-kept : (x && not y) ≡ false → a ≡ refilledIfDue a c
+    unfolding refilledIfDue
+    not-due-kept t = rw (← e, ← f, t)

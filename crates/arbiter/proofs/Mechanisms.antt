@@ -13,7 +13,7 @@ use Rattle.arbiter.specs.declared.Candidates.{Candidates}
 use Rattle.arbiter.specs.declared.Chosen.the-variants.{Queue, Nobody}
 use Rattle.arbiter.specs.Word.{burstOf}
 use Rattle.arbiter.specs.Turns.{turn}
-use Rattle.arbiter.specs.Arbiter.{withGroup, withLevels, levelTurn, toppedUp, ofTurn, byGroup, byLevel, byWeight, choice}
+use Rattle.arbiter.specs.Arbiter.{withGroup, withLevels, levelTurn, refilledIfDue, ofTurn, byGroup, byLevel, byWeight, choice}
 
 pub group-turn : (a : Arbiter) (p : ℕ → Bool) {b : Remainder} {t : Turn} → b ≡ burstOf (a .word) → t ≡ turn b (a .group) p
     → ofTurn (withGroup a) t ≡ byGroup a p
@@ -62,7 +62,7 @@ module _ (a : Arbiter) (c : Candidates) where
     unfolding byWeight
     weight-urgent u = rw (e, ← u)
 
-    pub weight-level : {x : Arbiter} → x ≡ toppedUp a c → Nobody ≡ byGroup a (isSet (c .urgent)) → byLevel x c ≡ byWeight a c
+    pub weight-level : {x : Arbiter} → x ≡ refilledIfDue a c → Nobody ≡ byGroup a (isSet (c .urgent)) → byLevel x c ≡ byWeight a c
     unfolding byWeight
     weight-level q u = rw (e, ← u, q)
 

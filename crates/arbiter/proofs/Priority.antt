@@ -18,7 +18,7 @@ use Rattle.arbiter.specs.declared.Candidates.{Candidates}
 use Rattle.arbiter.specs.declared.Chosen.the-variants.{Queue}
 use Rattle.arbiter.specs.Word.{burstOf}
 use Rattle.arbiter.specs.Turns.{turn}
-use Rattle.arbiter.specs.Arbiter.{withGroup, withLevels, some, ready, levelTurn, toppedUp, byGroup, byLevel, byWeight, choice}
+use Rattle.arbiter.specs.Arbiter.{withGroup, withLevels, some, ready, levelTurn, refilledIfDue, byGroup, byLevel, byWeight, choice}
 use Rattle.arbiter.proofs.Credits.{Has, Ready, is-ready, has-some, has-none, not-ready-idle, costs-one}
 use Rattle.arbiter.proofs.Choice.{Fits, TurnIs, LevelIs, turn-is, level-is}
 
@@ -53,8 +53,8 @@ module _ (m : ℕ) (h : m < 2 ^ 16) where
       go (T.Served i left) q w = (i, left, w .1 .1, q)
       go T.Idle q w = absurd (clash (has-some (isSet m) s) w)
 
-  group-rests : (full : Remainder) (g : Group) → (Has (isSet m) → ⊥) → turn full g (isSet m) ≡ T.Idle
-  group-rests full g n =
+  group-idle : (full : Remainder) (g : Group) → (Has (isSet m) → ⊥) → turn full g (isSet m) ≡ T.Idle
+  group-idle full g n =
       go (turn full g (isSet m)) (turn-is Candidate (λ i w. w .0) (isSet m) (λ i y. (set-within 16 m i h y, y)) full g)
     where
       go : (x : Turn) → TurnIs Candidate (some (isSet m)) x → x ≡ T.Idle
@@ -93,11 +93,11 @@ module _ (a : Arbiter) (c : Candidates) (f : Fits c) (e : a .weighted ≡ true) 
     -- the arbiter once it is refilled where that is due; the other levels and the urgent group are left as they are then
     module _ (u : Has (isSet (c .urgent)) → ⊥) where
       abbrev filled : Arbiter
-      filled = toppedUp a c
+      filled = refilledIfDue a c
 
       by-level : choice a c ≡ byLevel filled c
       unfolding choice byWeight byGroup
-      by-level = rw (e, n, group-rests (c .urgent) (f .urgent) (burstOf (a .word)) (a .group) u)
+      by-level = rw (e, n, group-idle (c .urgent) (f .urgent) (burstOf (a .word)) (a .group) u)
 
       -- a queue of the mask m is served by a turn of the level l, at the cost of one credit; `back` puts what is left of l in its place
       abbrev pub Serves : ℕ → Level → (Level → Arbiter) → Type 0
@@ -115,15 +115,15 @@ module _ (a : Arbiter) (c : Candidates) (f : Fits c) (e : a .weighted ≡ true) 
           (i, l, y, t, k, by-level ∙ rw t)
 
       module _ (h : Ready (filled .high) (isSet (c .high)) → ⊥) where
-        high-rests : levelTurn (burstOf (filled .word)) (filled .high) (isSet (c .high)) ≡ L.Idle
-        high-rests = not-ready-idle (isSet (c .high)) (filled .high) (burstOf (filled .word)) h
+        high-idle : levelTurn (burstOf (filled .word)) (filled .high) (isSet (c .high)) ≡ L.Idle
+        high-idle = not-ready-idle (isSet (c .high)) (filled .high) (burstOf (filled .word)) h
 
         pub medium-next : Ready (filled .medium) (isSet (c .medium))
             → Serves (c .medium) (filled .medium) (λ l. withLevels filled (filled .high) l (filled .low))
         unfolding byLevel
         medium-next r =
             let (i, l, y, t, k) = level-serves (c .medium) (f .medium) (burstOf (filled .word)) (filled .medium) r in
-            (i, l, y, t, k, by-level ∙ rw (high-rests, t))
+            (i, l, y, t, k, by-level ∙ rw (high-idle, t))
 
         module _ (m : Ready (filled .medium) (isSet (c .medium)) → ⊥) where
           pub low-last : Ready (filled .low) (isSet (c .low))
@@ -132,4 +132,4 @@ module _ (a : Arbiter) (c : Candidates) (f : Fits c) (e : a .weighted ≡ true) 
           low-last r =
               let (i, l, y, t, k) = level-serves (c .low) (f .low) (burstOf (filled .word)) (filled .low) r in
               let d = not-ready-idle (isSet (c .medium)) (filled .medium) (burstOf (filled .word)) m in
-              (i, l, y, t, k, by-level ∙ rw (high-rests, d, t))
+              (i, l, y, t, k, by-level ∙ rw (high-idle, d, t))

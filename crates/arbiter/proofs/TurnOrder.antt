@@ -32,8 +32,8 @@ module _ (p : ℕ → Bool) where
       (p i ≡ true) × (((h < i) × (i < 16) × None (h + 1) i) ⊎ ((i ≤ h) × None (h + 1) 16 × None 0 i))
 
   module _ (h : ℕ) (low : h < 16) where
-    next-came : (i : ℕ) → ComesNext h i → nextAfter p h ≡ Id i
-    next-came i (y, w) =
+    comes-next-found : (i : ℕ) → ComesNext h i → nextAfter p h ≡ Id i
+    comes-next-found i (y, w) =
         ⊎-elim
         (λ (u : (h < i) × (i < 16) × None (h + 1) i). at (i - h) (omega (arith, u .0)) (omega (arith, u .1)) (omega (arith, u .0, u .1))
         (λ j a b. let e : (h + j) % 16 ≡ h + j = omega (arith, u .1) in ap p e ∙ u .2 (h + j) (omega arith) (omega arith)))
@@ -52,8 +52,8 @@ module _ (p : ℕ → Bool) where
     nobody-next n = sym (next-none p h (λ j a b. n ((h + j) % 16) (omega arith) (omega arith)))
 
     -- d steps on there is a candidate, and none nearer
-    came-next : (d : ℕ) → 1 ≤ d → d ≤ 16 → p ((h + d) % 16) ≡ true → NoneNearer p h d → ComesNext h ((h + d) % 16)
-    came-next d l u y n = (
+    nearest-comes-next : (d : ℕ) → 1 ≤ d → d ≤ 16 → p ((h + d) % 16) ≡ true → NoneNearer p h d → ComesNext h ((h + d) % 16)
+    nearest-comes-next d l u y n = (
       y,
       ⊎-elim
           (λ (s : h + d < 16).
@@ -84,7 +84,7 @@ module _ (p : ℕ → Bool) where
         ⊎-elim
         (λ (e : ltb (first q 1 16) 17 ≡ true).
         let l : first q 1 16 < 17 = ltb-true _ 17 e in
-        rw e (came-next (first q 1 16) (first-from q 1 16) (omega arith) (first-hit q 1 16 l) (first-below q 1 16)))
+        rw e (nearest-comes-next (first q 1 16) (first-from q 1 16) (omega arith) (first-hit q 1 16 l) (first-below q 1 16)))
         (λ (e : ltb (first q 1 16) 17 ≡ false).
         let g : 17 ≤ first q 1 16 = ltb-false _ 17 e in
         rw e (λ i a l.
@@ -94,7 +94,7 @@ module _ (p : ℕ → Bool) where
 
     -- the next turn holder is exactly the candidate that comes next
     pub next-exact : (i : ℕ) → (nextAfter p h ≡ Id i) ↔ ComesNext h i
-    next-exact i = (go (nextAfter p h) found, next-came i)
+    next-exact i = (go (nextAfter p h) found, comes-next-found i)
       where
         go : (x : Next) → Found x → x ≡ Id i → ComesNext h i
         go (Id k) c e = let q : k ≡ i = cc in rw q at c
@@ -153,8 +153,8 @@ module _ (p : ℕ → Bool) where
       passes-on-without-limit = sym (passed NoLimit) ∙ rw next
 
   -- a group without a candidate serves nobody
-  pub rests : (full : Remainder) (g : Group) → g .holder < 16 → None p 0 16 → turn full g p ≡ Idle
-  rests full g low n =
+  pub turn-idle : (full : Remainder) (g : Group) → g .holder < 16 → None p 0 16 → turn full g p ≡ Idle
+  turn-idle full g low n =
       sym (passed g low (inr (n (g .holder) (omega arith) low)) full) ∙ rw (next-nobody p (g .holder) low .1 n)
 
   -- "at first holder 15, remainder 0": the first turn is the lowest candidate's

@@ -91,8 +91,8 @@ someReady a c =
     ready (a .high) (isSet (c .high)) || ready (a .medium) (isSet (c .medium)) || ready (a .low) (isSet (c .low))
 
 -- "if levels have candidates but none of these has credit, all three refill first"
-unfoldable pub toppedUp : Arbiter → Candidates → Arbiter
-toppedUp a c = pick (someWaits c && not (someReady a c)) (refilled a) a
+unfoldable pub refilledIfDue : Arbiter → Candidates → Arbiter
+refilledIfDue a c = pick (someWaits c && not (someReady a c)) (refilled a) a
 
 -- ---- the choice
 
@@ -126,7 +126,7 @@ byLevel a c =
 -- "Mechanism 1: SQ 0 first, without turns; then the urgent group (class 0); then levels"
 unfoldable pub byWeight : Arbiter → Candidates → Chosen
 byWeight a c =
-    pick (isSet (c .all) 0) (Queue 0 a) (orElse (byGroup a (isSet (c .urgent))) (byLevel (toppedUp a c) c))
+    pick (isSet (c .all) 0) (Queue 0 a) (orElse (byGroup a (isSet (c .urgent))) (byLevel (refilledIfDue a c) c))
 
 -- "Mechanism 0: all SQs form one group." Class "has no effect under mechanism 0"
 unfoldable pub choice : Arbiter → Candidates → Chosen

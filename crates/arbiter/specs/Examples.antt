@@ -14,8 +14,8 @@ use Rattle.arbiter.specs.declared.Chosen.{Chosen}
 use Rattle.arbiter.specs.declared.Chosen.the-variants.{Queue, Nobody}
 use Rattle.arbiter.specs.Word.{burstOf}
 use Rattle.arbiter.specs.Turns.{nextAfter, turn}
-use Rattle.arbiter.specs.Arbiter.{withLevels, withCredit, fresh, ready, levelTurn, someWaits, someReady, toppedUp, byGroup, byLevel}
-use Rattle.arbiter.specs.Arbiter.{byWeight, choice}
+use Rattle.arbiter.specs.Arbiter.{withLevels, withCredit, fresh, ready, levelTurn, someWaits, someReady, refilledIfDue, byGroup}
+use Rattle.arbiter.specs.Arbiter.{byLevel, byWeight, choice}
 
 abbrev pub maskOfIds : List ℕ → ℕ
 maskOfIds [] = 0
@@ -81,17 +81,17 @@ HighWeights =
     × (drop 128 (named (fresh true 0x00008007) (times 130 (lows (1 ∷ 2 ∷ [])))) ≡ 1 ∷ 2 ∷ [])
 
 pub high-weights : HighWeights
-unfolding HighWeights named choice byWeight byLevel byGroup toppedUp someWaits someReady levelTurn ready someBelow turn nextAfter burstOf
-    first isSet
+unfolding HighWeights named choice byWeight byLevel byGroup refilledIfDue someWaits someReady levelTurn ready someBelow turn nextAfter
+    burstOf first isSet
 high-weights = (refl, refl, refl, refl, refl, refl, refl, refl, refl)
 
 unfoldable pub Examples : Type 0
 Examples =
     -- all three refill, also a level that has credit left, and nothing is added up
-    (credits (toppedUp spent (highs (1 ∷ []))) ≡ 2 ∷ 3 ∷ 4 ∷ [])
+    (credits (refilledIfDue spent (highs (1 ∷ []))) ≡ 2 ∷ 3 ∷ 4 ∷ [])
     -- no refill where another level has a candidate and credit, nor where no level has a candidate
-    × (credits (toppedUp spent (classes [] (1 ∷ []) (2 ∷ []) [])) ≡ 0 ∷ 1 ∷ 4 ∷ [])
-    × (credits (toppedUp spent (urgents (1 ∷ []))) ≡ 0 ∷ 1 ∷ 4 ∷ [])
+    × (credits (refilledIfDue spent (classes [] (1 ∷ []) (2 ∷ []) [])) ≡ 0 ∷ 1 ∷ 4 ∷ [])
+    × (credits (refilledIfDue spent (urgents (1 ∷ []))) ≡ 0 ∷ 1 ∷ 4 ∷ [])
     × (named (fresh true 0x00010000) (times 6 (classes [] (1 ∷ []) (2 ∷ []) [])) ≡ 1 ∷ 2 ∷ 2 ∷ 1 ∷ 2 ∷ 2 ∷ [])
     -- burst 2, medium weight 2: the refill for queue 1 leaves queue 2 the rest of its turn; then one credit is left, and queue 4's
     -- turn is as short
@@ -113,6 +113,6 @@ Examples =
     × (drop 63 (named (fresh false 6) (times 65 (urgents (1 ∷ 2 ∷ [])))) ≡ 1 ∷ 2 ∷ [])
 
 pub examples : Examples
-unfolding Examples named choice byWeight byLevel byGroup toppedUp someWaits someReady levelTurn ready someBelow turn nextAfter burstOf
-    first isSet
+unfolding Examples named choice byWeight byLevel byGroup refilledIfDue someWaits someReady levelTurn ready someBelow turn nextAfter
+    burstOf first isSet
 examples = (refl, refl, refl, refl, refl, refl, refl, refl, refl, refl, refl, refl)

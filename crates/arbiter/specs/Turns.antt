@@ -1,4 +1,5 @@
--- Turns within a group of queues. The group's candidates are a test on ids.
+-- Turns within a group of queues. The group's candidates are a test on ids. `candidate`, `holder` and `remainder` are document 01's
+-- terms: "A candidate is an unmarked SQ that is not empty", "A group has a turn holder and a remainder".
 use Prim.Native.Nat.{ℕ, _+_, _-_, _%_}
 use mathlib.Core.Bool.{Bool, true, false, _&&_}
 use lib.Dec.{ltb}

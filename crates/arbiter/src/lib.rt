@@ -1,4 +1,5 @@
-// Arbitration: which submission queue is served next. Candidates are 16-bit masks, bit n for queue n.
+// Arbitration: which submission queue is served next. Candidates are 16-bit masks, bit n for queue n. Candidate, turn holder and
+// remainder are document 01's terms.
 // Tests are joined by `&` and `|`, which do not branch.
 ghost use mathlib.Core.Path.{_≡_};
 ghost use mathlib.Core.Bool.{false};
@@ -7,8 +8,8 @@ ghost use lib.Dec.{eqb};
 ghost use Rattle.bits.specs.Bits.{isSet};
 ghost use Rattle.arbiter.specs.Word.{burstOf, weightAt};
 ghost use Rattle.arbiter.specs.Turns.{nextAfter, aboveZero, remainderAnswer, lowered, served, turn};
-ghost use Rattle.arbiter.specs.Arbiter.{some, levelFull, ready, levelTurn, fresh, refilled, someWaits, someReady, toppedUp, byGroup};
-ghost use Rattle.arbiter.specs.Arbiter.{byLevel, byWeight, choice, nextAnswer, turnAnswer, levelAnswer};
+ghost use Rattle.arbiter.specs.Arbiter.{some, levelFull, ready, levelTurn, fresh, refilled, someWaits, someReady, refilledIfDue};
+ghost use Rattle.arbiter.specs.Arbiter.{byGroup, byLevel, byWeight, choice, nextAnswer, turnAnswer, levelAnswer};
 ghost use Rattle.arbiter.specs.Arbiter.{groupRefusal, levelRefusal, chosenAnswer, choiceRefusal};
 
 // What is left of a turn.
@@ -281,8 +282,8 @@ impl Arbiter {
     }
 
     // Refilled where levels have candidates but none of these has credit.
-    fn topped_up(self, c: Candidates) -> Arbiter
-        ensures { λ r. ⌜ r ≡ toppedUp self c ⌝ }
+    fn refilled_if_due(self, c: Candidates) -> Arbiter
+        ensures { λ r. ⌜ r ≡ refilledIfDue self c ⌝ }
     {
         if some_waits(c) & !self.some_ready(c) {
             self.refilled()
@@ -336,7 +337,7 @@ impl Arbiter {
         if let Chosen::Queue(_, _) = urgent {
             return urgent;
         }
-        self.topped_up(c).choose_level(c)
+        self.refilled_if_due(c).choose_level(c)
     }
 
     // The queue to serve next.

@@ -8,7 +8,7 @@ use native.Mathlib.Omega.{arith}
 use lib.Count.{ones, trailing-of-zero}
 use borrow.Author.Tests.{lt-ltb, le-ltb, le-leb, lt-leb}
 use Rattle.rules.proofs.Tests.{bool-cases, lt-or-ge, clash}
-use Rattle.rules.proofs.Tables.{told}
+use Rattle.rules.proofs.Tables.{answer-number}
 use Rattle.bits.specs.declared.TakenOne.{TakenOne}
 use Rattle.bits.specs.declared.TakenOne.the-variants.{Tag, NoneFree}
 use Rattle.bits.specs.declared.TakenTwo.{TakenTwo}
@@ -90,7 +90,7 @@ module _ (m : ℕ) (h : m < 2 ^ 64) where
 
   -- the answer, with document 01's number
   pub one-answered : {x : TakenOne} → x ≡ takenOne m → (x ≡ takenOne m) × (oneAnswer m x .0 ≡ tagRefusal 1 m)
-  one-answered e = told (λ y. oneAnswer m y .0) one-refusal e
+  one-answered e = answer-number (λ y. oneAnswer m y .0) one-refusal e
 
 -- ---- two tags: one after the other
 
@@ -165,7 +165,7 @@ module _ (m : ℕ) (h : m < 2 ^ 64) where
       (λ (l : 2 ≤ freeCount m). rw (← two-some l, le-ltb (freeCount m) 2 l)) (lt-or-ge (freeCount m) 2)
 
   pub two-answered : {x : TakenTwo} → x ≡ takenTwo m → (x ≡ takenTwo m) × (twoAnswer m x .0 ≡ tagRefusal 2 m)
-  two-answered e = told (λ y. twoAnswer m y .0) two-refusal e
+  two-answered e = answer-number (λ y. twoAnswer m y .0) two-refusal e
 
 -- ---- a tag given back
 

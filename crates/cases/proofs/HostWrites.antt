@@ -89,7 +89,7 @@ unfolding memory calls seen settle isSet first count maskOf someBelow takenOne t
     doorbell.headRefusal doorbell.headWrite inUse verdictOne verdictPair starting.candidateAt starting.candidates starting.entryAt
     starting.isPair starting.oneTaken starting.pairTaken starting.takeOne starting.takePair starting.start finishing.full
     finishing.finishRefusal finishing.statusOf finishing.released finishing.unlinked finishing.posted finishing.finishedController
-    finishing.finish arbiter.choice arbiter.byGroup arbiter.byWeight arbiter.byLevel arbiter.toppedUp arbiter.someWaits
+    finishing.finish arbiter.choice arbiter.byGroup arbiter.byWeight arbiter.byLevel arbiter.refilledIfDue arbiter.someWaits
     arbiter.someReady arbiter.levelTurn arbiter.ready turns.turn turns.nextAfter word.burstOf reader found readCount readSlots slotIn
     phaseIn completionAt phaseTag
 host-writes = (refl, refl, refl, refl, refl, refl, refl, refl)

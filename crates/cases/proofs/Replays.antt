@@ -146,7 +146,7 @@ pub replays : (allNarrow firstCalls ≡ true)
     (heads 1 [] (allSteps c (earlier ++ later)))
     ≡ completion 0 1 1 7 5 ∷ [])
 unfolding memory old firstCalls secondCalls seenLater reader found readCount readSlots slotIn phaseIn completionAt phaseTag
-    arbiter.byWeight arbiter.byLevel arbiter.toppedUp arbiter.someWaits arbiter.someReady arbiter.levelTurn arbiter.ready delete.busy
+    arbiter.byWeight arbiter.byLevel arbiter.refilledIfDue arbiter.someWaits arbiter.someReady arbiter.levelTurn arbiter.ready delete.busy
     delete.named delete.deleteCqRefusal delete.deleteSqRefusal delete.deleteCq delete.deleteSq replayCalls
     settle isSet first maskOf someBelow takenOne givenBack le leAt part put completionBytes submissionAt next
     distance phaseAfter ring.validTail ring.validHead outstanding someRing shareByte shares outside create.createCqRefusal

@@ -19,7 +19,7 @@ use Rattle.prp.specs.Pages.{pageSize, pagesTouched, split, byteCounts}
 use Rattle.prp.specs.Walk.{found, after, inMemory, lastOfPage, readEntry, list, dataPages, beforeWalk, pageWalk}
 use Rattle.arbiter.specs.Word.{burstOf}
 use Rattle.arbiter.specs.Turns.{nextAfter, turn}
-use Rattle.arbiter.specs.Arbiter.{choice, byWeight, byLevel, byGroup, levelTurn, ready, someWaits, someReady, toppedUp}
+use Rattle.arbiter.specs.Arbiter.{choice, byWeight, byLevel, byGroup, levelTurn, ready, someWaits, someReady, refilledIfDue}
 use Rattle.controller.specs.State.{freshController, outstanding}
 use Rattle.controller.specs.Rings.{someRing, shareByte, shares, outside}
 use Rattle.controller.specs.Create as create
@@ -97,7 +97,7 @@ Cases =
 pub cases : Cases
 unfolding Cases settle isSet first count maskOf someBelow takenOne takenTwo givenBack le leAt part put completionBytes submissionAt next
     distance phaseAfter ring.validTail ring.validHead pageSize pagesTouched split byteCounts after inMemory lastOfPage readEntry list
-    dataPages beforeWalk pageWalk burstOf nextAfter turn choice byWeight byLevel byGroup levelTurn ready someWaits someReady toppedUp
+    dataPages beforeWalk pageWalk burstOf nextAfter turn choice byWeight byLevel byGroup levelTurn ready someWaits someReady refilledIfDue
     outstanding someRing shareByte shares outside create.createCqRefusal create.createSqRefusal create.createCq create.createSq
     doorbell.tailRefusal doorbell.tailWrite inUse verdictOne verdictPair starting.candidateAt starting.candidates starting.entryAt
     starting.isPair starting.oneTaken starting.pairTaken starting.takeOne starting.takePair starting.start

@@ -3,7 +3,8 @@ ghost use mathlib.Core.Path.{_≡_};
 ghost use Prim.Native.Nat.{_≤_};
 ghost use lib.ListN.{length};
 ghost use Rattle.le.specs.Memory.{put};
-ghost use Rattle.entry.specs.Completion.{completion, completionBytes, writeRefusal, written, completionAnswer, readRefusal, completionRead};
+ghost use Rattle.entry.specs.Completion.{completion, completionBytes, writeRefusal, written};
+ghost use Rattle.entry.specs.Completion.{completionAnswer, readRefusal, completionRead};
 
 // What a completion tells of its command. The phase tag beside it in an entry is the ring's.
 pub struct Completion {

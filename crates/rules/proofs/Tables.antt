@@ -45,8 +45,8 @@ append-passed [] ss u = refl
 append-passed (r ∷ rs) ss u = rw (u .0) (append-passed rs ss (u .1))
 
 -- an answer that is its definition's, and so has the number n that f gives it
-pub told : {A : Type 0} (f : A → ℕ) {n : ℕ} {x y : A} → f y ≡ n → x ≡ y → (x ≡ y) × (f x ≡ n)
-told f h e = (e, ap f e ∙ h)
+pub answer-number : {A : Type 0} (f : A → ℕ) {n : ℕ} {x y : A} → f y ≡ n → x ≡ y → (x ≡ y) × (f x ≡ n)
+answer-number f h e = (e, ap f e ∙ h)
 
 module _ {A : Type 0} (n : ℕ) (refuse : ℕ → A) (accept : A) where
   pub settle-refused : (n ≡ 0 → ⊥) → settle n refuse accept ≡ refuse n

@@ -11,7 +11,7 @@ use lib.Seq.{getD-drop}
 use borrow.Author.Tests.{lt-ltb, le-ltb, le-leb, lt-leb}
 use Rattle.rules.specs.Rules.{pick, firstMatch}
 use Rattle.rules.proofs.Tests.{clash, same-or-not, bool-cases, lt-or-ge}
-use Rattle.rules.proofs.Tables.{told, settle-accepted, settle-refused}
+use Rattle.rules.proofs.Tables.{answer-number, settle-accepted, settle-refused}
 use Rattle.rules.proofs.Exactly.{Says, says-lt, says-eq, says-not, says-or, says-as, says-outside, Reasons, Decided, decided, given-exactly}
 use Rattle.le.specs.Le.{leAt}
 use Rattle.le.specs.Memory.{part}
@@ -93,7 +93,7 @@ number-at t place =
 
 pub answered : (t : List ℕ) (place : ℕ) {x : Record} → x ≡ recordAt t place
     → (x ≡ recordAt t place) × (numberIn (asked x) ≡ refusalAt t place)
-answered t place e = told (λ y. numberIn (asked y)) (number-at t place) e
+answered t place e = answer-number (λ y. numberIn (asked y)) (number-at t place) e
 
 -- 31 is the number of a short record alone
 pub short-exactly : (r : List ℕ) → (numberIn (asked (recordIn r)) ≡ 31) ↔ (length r < 16)

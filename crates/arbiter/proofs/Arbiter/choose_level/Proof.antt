@@ -11,7 +11,8 @@ highIdle c = level-gave _ _ _ (c .before .before .before .burst .ensures .0) (c 
 
 mediumIdle : (c : tie.After-enum-told2)
     → let s = c .before .before .before .before .before .before .before .before .before .before in Medium (s .args .self) (s .args .c) Idle
-mediumIdle c = level-gave _ _ _ (c .before .before .before .burst2 .ensures .0) (c .enum-told2 .given .1) (c .before .before .turn2 .ensures .0)
+mediumIdle c =
+    level-gave _ _ _ (c .before .before .before .burst2 .ensures .0) (c .enum-told2 .given .1) (c .before .before .turn2 .ensures .0)
 
 returns : tie.Need-returns
 returns c =

@@ -21,7 +21,7 @@ returns-2 c =
 returns-3 : tie.Need-returns-3
 returns-3 c =
     c .choose-level .ensures
-    ∙ weight-level _ _ (notAdmin (c .before .before .before .before .before)) (c .before .topped-up .ensures)
+    ∙ weight-level _ _ (notAdmin (c .before .before .before .before .before)) (c .before .refilled-if-due .ensures)
     (sym (c .before .before .enum-told2 .given .1) ∙ c .before .before .before .before .choose-group .ensures)
 
 pub choose-weighted-spec : {M : Type 1} → statement M

@@ -3,7 +3,7 @@ use mathlib.Core.Path.{_≡_, sym, ap, _∙_}
 use lib.ListN.{length}
 use Rattle.ring.specs.Reader.{readerRefusal, waitingAnswer, ringRead}
 use Rattle.ring.specs.declared.reader.Waiting.the-variants.{Count, Refused}
-use Rattle.rules.proofs.Tables.{told, settle-refused, settle-accepted}
+use Rattle.rules.proofs.Tables.{answer-number, settle-refused, settle-accepted}
 use Rattle.ring.proofs.Counts.{accepted}
 use Rattle.ring.proofs.Exactly.{reader-number}
 use Rattle.ring.proofs.reader.read.Statement.{statement}
@@ -17,7 +17,7 @@ returns : tie.Need-returns
 unfolding ringRead
 returns c =
     let e = c .before .refusal .ensures in
-    told (λ r. waitingAnswer r .0) (number (c .before .before .before))
+    answer-number (λ r. waitingAnswer r .0) (number (c .before .before .before))
     (ap Refused e ∙ sym (settle-refused _ Refused _ (λ z. c .if1 .taken (e ∙ z))))
 
 count-requires : tie.Need-count-requires
@@ -29,7 +29,7 @@ count-requires c κs =
 returns-2 : tie.Need-returns-2
 unfolding ringRead
 returns-2 c =
-    told (λ r. waitingAnswer r .0) (number (c .before .before .before .before))
+    answer-number (λ r. waitingAnswer r .0) (number (c .before .before .before .before))
     (ap Count (c .count .ensures) ∙ sym (settle-accepted _ Refused _ (sym (c .before .before .refusal .ensures) ∙ c .before .if1 .left)))
 
 pub read-spec : {M : Type 1} → statement M
