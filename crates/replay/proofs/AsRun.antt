@@ -26,7 +26,7 @@ use Rattle.controller.proofs.Made.{deletes-cq, deletes-sq, commands, made}
 use Rattle.controller.proofs.Validity.{valid}
 use Rattle.trace.specs.declared.Record.{Record}
 use Rattle.trace.specs.declared.Record.the-variants as R
-use Rattle.trace.specs.Record.{Asked, call, none, asked, recordIn, callsOf}
+use Rattle.trace.specs.Record.{Asked, call, none, asked, recordIn, askedCalls}
 use Rattle.trace.specs.Trace.{begun, records, callsIn}
 use Rattle.replay.specs.Replay.{roomRules, doneBy, played, replay}
 use Rattle.replay.specs.Runs.{replayCalls, replayRun}
@@ -38,7 +38,7 @@ abbrev pub Leave : Controller → Memory → List Call → Controller → Memory
 Leave c m xs c′ m′ = (final c (given c m xs) ≡ c′) × (leaves c m xs ≡ m′)
 
 one-more : (c : Controller) (m : Memory) (a : Asked) (xs : List Call) {c′ : Controller} {m′ : Memory}
-    → Leave (doneBy c m a .controller) (doneBy c m a .memory) xs c′ m′ → Leave c m (callsOf a ++ xs) c′ m′
+    → Leave (doneBy c m a .controller) (doneBy c m a .memory) xs c′ m′ → Leave c m (askedCalls a ++ xs) c′ m′
 one-more c m (call x) xs h = h
 one-more c m (none n) xs h = h
 
@@ -75,7 +75,7 @@ abbrev AllTraced : List Call → Type 0
 AllTraced [] = Unit {0}
 AllTraced (x ∷ xs) = Traced x × AllTraced xs
 
-record-traced : (x : Record) (xs : List Call) → AllTraced xs → AllTraced (callsOf (asked x) ++ xs)
+record-traced : (x : Record) (xs : List Call) → AllTraced xs → AllTraced (askedCalls (asked x) ++ xs)
 record-traced (R.TailWrite queue v) xs h = (tt, h)
 record-traced (R.HeadWrite queue v) xs h = (tt, h)
 record-traced R.Start xs h = (tt, h)

@@ -14,7 +14,7 @@ use Rattle.controller.specs.Answers.{StartAnswer, FinishAnswer, Answer, refused
 use Rattle.controller.specs.Calls.{Call, tailWrite, headWrite, start, finish, perform}
 use Rattle.trace.specs.Record.{Asked, call, none}
 use Rattle.trace.specs.Trace.{begun}
-use Rattle.replay.specs.Replay.{valueOf, resultOf, doneBy, answerBytes, Ended, ended, replay}
+use Rattle.replay.specs.Replay.{valueOf, resultValue, doneBy, answerBytes, Ended, ended, replay}
 use Rattle.replay.proofs.Playing as p
 use Rattle.replay.proofs.Joined.{replay-done}
 
@@ -43,7 +43,7 @@ module _ (c : Controller) (m : Memory) (t room : List ℕ) where
 
 module _ (c : Controller) (m : Memory) where
   pub written : (x : Call) → perform c m x .answer ≡ done → doneBy c m (call x) .result ≡ valueOf x
-  written x e = ap (resultOf x) e
+  written x e = ap (resultValue x) e
 
   pub tail-result : (q v : ℕ) → perform c m (tailWrite q v) .answer ≡ done → doneBy c m (call (tailWrite q v)) .result ≡ v
   tail-result q v = written (tailWrite q v)
@@ -52,20 +52,20 @@ module _ (c : Controller) (m : Memory) where
   head-result q v = written (headWrite q v)
 
   pub start-result : {s : StartAnswer} → perform c m start .answer ≡ started s → doneBy c m (call start) .result ≡ s .first
-  start-result e = ap (resultOf start) e
+  start-result e = ap (resultValue start) e
 
   pub finish-result : (tag status : ℕ) {f : FinishAnswer} → perform c m (finish tag status 0) .answer ≡ finished f
       → doneBy c m (call (finish tag status 0)) .result ≡ f .slot
-  finish-result tag status e = ap (resultOf (finish tag status 0)) e
+  finish-result tag status e = ap (resultValue (finish tag status 0)) e
 
-  result-of : (x : Call) (a : Answer) → (numberOf a ≡ 0 → ⊥) → resultOf x a ≡ 0
-  result-of x (refused n) d = refl
-  result-of x done d = absurd (d refl)
-  result-of x (started s) d = absurd (d refl)
-  result-of x (finished f) d = absurd (d refl)
+  result-refused : (x : Call) (a : Answer) → (numberOf a ≡ 0 → ⊥) → resultValue x a ≡ 0
+  result-refused x (refused n) d = refl
+  result-refused x done d = absurd (d refl)
+  result-refused x (started s) d = absurd (d refl)
+  result-refused x (finished f) d = absurd (d refl)
 
   pub refused-result : (a : Asked) → (doneBy c m a .refusal ≡ 0 → ⊥) → doneBy c m a .result ≡ 0
-  refused-result (call x) d = result-of x (perform c m x .answer) d
+  refused-result (call x) d = result-refused x (perform c m x .answer) d
   refused-result (none n) d = refl
 
 -- ---- an answer record, read back field for field

@@ -27,7 +27,7 @@ use Rattle.controller.proofs.Validity.{valid}
 use Rattle.controller.proofs.Written.{posts-to}
 use Rattle.trace.specs.declared.Record.the-variants as R
 use Rattle.trace.specs.Record.{sent, target, value, anySet, spares, recordRules, callIn, recordIn, Asked, call, none, asked}
-use Rattle.replay.specs.Replay.{valueOf, resultOf, doneBy, answerBytes}
+use Rattle.replay.specs.Replay.{valueOf, resultValue, doneBy, answerBytes}
 use Rattle.replay.proofs.Exactly.{answer-read}
 
 -- ---- refusal numbers
@@ -71,7 +71,7 @@ low-number c m x =
 -- ---- results
 
 low-result : {c : Controller} {m : Memory} {x : Call} {o : Outcome} → Valid c → Made c m x o → valueOf x < 65536
-    → resultOf x (o .answer) < 65536
+    → resultValue x (o .answer) < 65536
 unfolding oneTaken pairTaken
 low-result v (refuses x n) h = lit< tt
 low-result v (marks id y g e) h = lit< tt

@@ -17,12 +17,14 @@ use Rattle.le.proofs.Parts.{sets-put, put-length}
 use Rattle.controller.specs.Controller.{Controller}
 use Rattle.controller.specs.Answers.{Answer, numberOf, Outcome, outcome}
 use Rattle.controller.specs.Calls.{Call, perform, ofNumber}
-use Rattle.trace.specs.Record.{sent, recordIn, call, asked}
+use Rattle.store.specs.Held.{held, Sound, Reached}
+use Rattle.store.proofs.Fresh.{reached-call}
+use Rattle.trace.specs.Record.{sent, recordIn, Asked, call, none, asked}
 use Rattle.trace.specs.Trace.{begun, records, recordAt, nextAt}
 use Rattle.trace.specs.declared.Record.{Record}
 use Rattle.trace.proofs.Wholes.{sent-at, there}
 use Rattle.trace.proofs.Cutting.{recordsFrom, count, at-end, unrolled, next-place, room-here, room-next, next-inside}
-use Rattle.replay.specs.Replay.{valueOf, resultOf, Done, coming, doneBy, answerBytes, Replay, leaving, played, ended, replay}
+use Rattle.replay.specs.Replay.{valueOf, resultValue, Done, coming, doneBy, answerBytes, Replay, leaving, played, ended, replay}
 
 -- ---- a call's answer in numbers
 
@@ -30,21 +32,38 @@ use Rattle.replay.specs.Replay.{valueOf, resultOf, Done, coming, doneBy,
 pub number-is : (n : ℕ) → n ≡ numberOf (ofNumber n)
 number-is n = ⊎-elim (λ (z : n ≡ 0). rw (eq-eqb n 0 z) z) (λ (h : n ≡ 0 → ⊥). rw (ne-eqb n 0 h)) (same-or-not n 0)
 
+-- of an answer that was taken apart: a is b
+pub taken-apart : {A : Type 0} (f : A → Answer) {a b : A} {n r : ℕ} → a ≡ b → n ≡ numberOf (f b) → ((x : Call) → r ≡ resultValue x (f b))
+    → (n ≡ numberOf (f a)) × ((x : Call) → r ≡ resultValue x (f a))
+taken-apart f e p q = rw e (p, q)
+
 module _ (c : Controller) (m : Memory) (x : Call) {d : Controller} {left : Memory} {n r : ℕ} where
-  pub answered : {a : Answer} → outcome a d left ≡ perform c m x → (n ≡ numberOf a) × (r ≡ resultOf x a)
+  answered : {a : Answer} → outcome a d left ≡ perform c m x → (n ≡ numberOf a) × (r ≡ resultValue x a)
       → coming n r d left ≡ doneBy c m (call x)
   answered {a} e (p, q) = ap (λ (i : ℕ). coming i r d left) p ∙ ap (λ (i : ℕ). coming (numberOf a) i d left) q ∙ ap made e
     where
       made : Outcome → Done
-      made o = coming (numberOf (o .answer)) (resultOf x (o .answer)) (o .controller) (o .memory)
+      made o = coming (numberOf (o .answer)) (resultValue x (o .answer)) (o .controller) (o .memory)
 
-  -- of a doorbell write
-  pub written : {k : ℕ} → outcome (ofNumber k) d left ≡ perform c m x → (n ≡ k) × (r ≡ pick (eqb k 0) (valueOf x) 0)
-      → coming n r d left ≡ doneBy c m (call x)
-  written {k} e (p, q) = answered e (p ∙ number-is k, q ∙ value-is k)
-    where
-      value-is : (k : ℕ) → pick (eqb k 0) (valueOf x) 0 ≡ resultOf x (ofNumber k)
-      value-is k = ⊎-elim (λ (z : k ≡ 0). rw (eq-eqb k 0 z)) (λ (h : k ≡ 0 → ⊥). rw (ne-eqb k 0 h)) (same-or-not k 0)
+-- of a doorbell write
+pub written : (x : Call) {k n r : ℕ} → (n ≡ k) × (r ≡ pick (eqb k 0) (valueOf x) 0)
+    → (n ≡ numberOf (ofNumber k)) × (r ≡ resultValue x (ofNumber k))
+written x {k} (p, q) = (p ∙ number-is k, q ∙ value-is)
+  where
+    value-is : pick (eqb k 0) (valueOf x) 0 ≡ resultValue x (ofNumber k)
+    value-is = ⊎-elim (λ (z : k ≡ 0). rw (eq-eqb k 0 z)) (λ (h : k ≡ 0 → ⊥). rw (ne-eqb k 0 h)) (same-or-not k 0)
+
+-- the call x that a record asks for was made: its answer in numbers, and the words that it left
+pub executed : {w u : List ℕ} (m : Memory) (x : Call) {left : Memory} {n r : ℕ} {y : Answer} {a : Asked} → a ≡ call x
+    → Reached w → Sound u → outcome y (held u) left ≡ perform (held w) m x → (n ≡ numberOf y) × (r ≡ resultValue x y)
+    → Reached u × (coming n r (held u) left ≡ doneBy (held w) m a)
+executed {w} m x is before sound e numbers =
+    (reached-call m x before sound e, answered (held w) m x e numbers ∙ ap (doneBy (held w) m) (sym is))
+
+-- a record that asks for none
+pub uncalled : (c : Controller) (m : Memory) {n r k : ℕ} {a : Asked} → a ≡ none k → (n ≡ k) × (r ≡ 0)
+    → coming n r c m ≡ doneBy c m a
+uncalled c m is (p, q) = rw (is, p, q)
 
 -- ---- the record at a place of the trace
 

@@ -26,11 +26,11 @@ valueOf start = 0
 valueOf (finish tag status result) = 0
 
 -- "value written, first tag, or slot posted; 0 if refused"
-abbrev pub resultOf : Call → Answer → ℕ
-resultOf x (refused n) = 0
-resultOf x done = valueOf x
-resultOf x (started s) = s .first
-resultOf x (finished f) = f .slot
+abbrev pub resultValue : Call → Answer → ℕ
+resultValue x (refused n) = 0
+resultValue x done = valueOf x
+resultValue x (started s) = s .first
+resultValue x (finished f) = f .slot
 
 -- what a record comes to
 pub record Done : Type 0 where
@@ -43,7 +43,7 @@ abbrev pub coming : ℕ → ℕ → Controller → Memory → Done
 coming refusal result c m = record { refusal = refusal; result = result; controller = c; memory = m }
 
 abbrev pub doneBy : Controller → Memory → Asked → Done
-doneBy c m (call x) = let o = perform c m x in coming (numberOf (o .answer)) (resultOf x (o .answer)) (o .controller) (o .memory)
+doneBy c m (call x) = let o = perform c m x in coming (numberOf (o .answer)) (resultValue x (o .answer)) (o .controller) (o .memory)
 doneBy c m (none n) = coming n 0 c m
 
 -- "byte 0 as sent, refusal number, two result bytes .., twelve zeros"

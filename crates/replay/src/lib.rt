@@ -10,7 +10,7 @@ ghost use Rattle.controller.specs.Calls.{Call, ofStarted, ofFinished};
 ghost use Rattle.store.specs.Held.{held, Sound, Reached};
 ghost use Rattle.trace.specs.Record.{sent, recordIn, asked};
 ghost use Rattle.trace.specs.Trace.{begun};
-ghost use Rattle.replay.specs.Replay.{resultOf, coming, doneBy, answerBytes, replayAnswer, ended, replay};
+ghost use Rattle.replay.specs.Replay.{resultValue, coming, doneBy, answerBytes, replayAnswer, ended, replay};
 use controller::Finished;
 use controller::Started;
 use doorbells::head_write;
@@ -29,29 +29,35 @@ pub enum Replayed {
 }
 
 // A call's refusal number, and its result: the value written, the first tag or the slot posted, 0 beside a refusal.
-struct Said {
+struct CallAnswer {
     refusal: u64,
     result: u64,
 }
 
+fn done(result: u64) -> CallAnswer
+    ensures { λ r. ⌜ (r .refusal ≡ 0) × (r .result ≡ result) ⌝ }
+{
+    CallAnswer { refusal: 0, result }
+}
+
+fn refused(refusal: u64) -> CallAnswer
+    ensures { λ r. ⌜ (r .refusal ≡ refusal) × (r .result ≡ 0) ⌝ }
+{
+    CallAnswer { refusal, result: 0 }
+}
+
 // A doorbell write's.
-fn written(refusal: u64, value: u16) -> Said
+fn written(refusal: u64, value: u16) -> CallAnswer
     ensures { λ r. ⌜ (r .refusal ≡ refusal) × (r .result ≡ pick (eqb refusal 0) value 0) ⌝ }
 {
     if refusal == 0 {
-        return Said {
-            refusal: 0,
-            result: value as u64,
-        };
+        return done(value as u64);
     }
-    Said {
-        refusal: refusal,
-        result: 0,
-    }
+    refused(refusal)
 }
 
-fn started(answer: Started) -> Said
-    ensures { λ r. ⌜ (r .refusal ≡ numberOf (ofStarted answer)) × ((x : Call) → r .result ≡ resultOf x (ofStarted answer)) ⌝ }
+fn started(answer: Started) -> CallAnswer
+    ensures { λ r. ⌜ (r .refusal ≡ numberOf (ofStarted answer)) × ((x : Call) → r .result ≡ resultValue x (ofStarted answer)) ⌝ }
 {
     match answer {
         Started::One {
@@ -60,10 +66,7 @@ fn started(answer: Started) -> Said
             slot,
             verdict,
             number,
-        } => Said {
-            refusal: 0,
-            result: tag as u64,
-        },
+        } => done(tag as u64),
         Started::Pair {
             sq,
             first,
@@ -71,34 +74,22 @@ fn started(answer: Started) -> Said
             slot,
             verdict,
             number,
-        } => Said {
-            refusal: 0,
-            result: first as u64,
-        },
-        Started::Refused(n) => Said {
-            refusal: n,
-            result: 0,
-        },
+        } => done(first as u64),
+        Started::Refused(n) => refused(n),
     }
 }
 
-fn finished(answer: Finished) -> Said
-    ensures { λ r. ⌜ (r .refusal ≡ numberOf (ofFinished answer)) × ((x : Call) → r .result ≡ resultOf x (ofFinished answer)) ⌝ }
+fn finished(answer: Finished) -> CallAnswer
+    ensures { λ r. ⌜ (r .refusal ≡ numberOf (ofFinished answer)) × ((x : Call) → r .result ≡ resultValue x (ofFinished answer)) ⌝ }
 {
     match answer {
-        Finished::Slot { slot, number } => Said {
-            refusal: 0,
-            result: slot as u64,
-        },
-        Finished::Refused(n) => Said {
-            refusal: n,
-            result: 0,
-        },
+        Finished::Slot { slot, number } => done(slot as u64),
+        Finished::Refused(n) => refused(n),
     }
 }
 
 // Makes the call that a record asks for.
-fn obey(state: &mut [u64; WORDS], memory: &mut [u8], asking: Record) -> Said
+fn execute(state: &mut [u64; WORDS], memory: &mut [u8], asking: Record) -> CallAnswer
     requires { ⌜ Reached (now state) ⌝ }
     ensures { λ r. ⌜ Reached (now (state .exit)) ⌝ }
     ensures { λ r. ⌜ coming (r .refusal) (r .result) (held (now (state .exit))) (now (memory .exit))
@@ -121,25 +112,19 @@ fn obey(state: &mut [u64; WORDS], memory: &mut [u8], asking: Record) -> Said
             status as u64,
             0,
         )),
-        Record::Refused(n) => Said {
-            refusal: n,
-            result: 0,
-        },
-        Record::End => Said {
-            refusal: 0,
-            result: 0,
-        },
+        Record::Refused(n) => refused(n),
+        Record::End => done(0),
     }
 }
 
 // Puts an answer record at a place of the room.
-fn put_answer(room: &mut [u8], at: usize, byte: u64, said: Said)
+fn put_answer(room: &mut [u8], at: usize, byte: u64, a: CallAnswer)
     requires { ⌜ at + 16 ≤ length (now room) ⌝ }
-    ensures { λ _. ⌜ now (room .exit) ≡ put (now (room .entry)) at (answerBytes byte (said .refusal) (said .result)) ⌝ }
+    ensures { λ _. ⌜ now (room .exit) ≡ put (now (room .entry)) at (answerBytes byte (a .refusal) (a .result)) ⌝ }
 {
     le::put8(room, at, byte);
-    le::put8(room, at + 1, said.refusal);
-    le::put16(room, at + 2, said.result);
+    le::put8(room, at + 1, a.refusal);
+    le::put16(room, at + 2, a.result);
     le::put32(room, at + 4, 0);
     le::put64(room, at + 8, 0);
 }
@@ -153,8 +138,8 @@ fn answer(state: &mut [u64; WORDS], memory: &mut [u8], trace: &[u8], room: &mut 
         (held (now (state .exit)) ≡ d .controller) × (now (memory .exit) ≡ d .memory)
         × (now (room .exit) ≡ put (now (room .entry)) at (answerBytes (sent x) (d .refusal) (d .result)))) ⌝ }
 {
-    let said = obey(state, memory, read(trace, at));
-    put_answer(room, at, le::get8(trace, at), said);
+    let a = execute(state, memory, read(trace, at));
+    put_answer(room, at, le::get8(trace, at), a);
 }
 
 // How many records are begun in so many bytes.

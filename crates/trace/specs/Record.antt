@@ -62,6 +62,6 @@ abbrev pub numberIn : Asked → ℕ
 numberIn (call x) = 0
 numberIn (none n) = n
 
-abbrev pub callsOf : Asked → List Call
-callsOf (call x) = x ∷ []
-callsOf (none n) = []
+abbrev pub askedCalls : Asked → List Call
+askedCalls (call x) = x ∷ []
+askedCalls (none n) = []

@@ -8,7 +8,7 @@ use Rattle.le.specs.Memory.{part}
 use Rattle.controller.specs.Calls.{Call}
 use Rattle.trace.specs.declared.Record.{Record}
 use Rattle.trace.specs.declared.Record.the-variants.{End}
-use Rattle.trace.specs.Record.{recordRules, recordIn, asked, callsOf}
+use Rattle.trace.specs.Record.{recordRules, recordIn, asked, askedCalls}
 
 -- how many records are begun in n bytes
 unfoldable pub begun : ℕ → ℕ
@@ -25,7 +25,7 @@ records t = firstRecords (begun (length t)) t
 -- the calls that records make
 abbrev pub callsIn : List (List ℕ) → List Call
 callsIn [] = []
-callsIn (r ∷ rs) = callsOf (asked (recordIn r)) ++ callsIn rs
+callsIn (r ∷ rs) = askedCalls (asked (recordIn r)) ++ callsIn rs
 
 -- what stands at a place of a trace
 unfoldable pub recordAt : List ℕ → ℕ → Record

@@ -1,4 +1,4 @@
--- `answer` meets its contract: the record is read, obeyed, and its answer put into the room. Assumes nothing.
+-- `answer` meets its contract: the record is read, its call made, and its answer put into the room. Assumes nothing.
 use borrow.Author.Needs.{needs}
 use Rattle.replay.proofs.Playing.{recorded}
 use Rattle.replay.proofs.answer.Statement.{statement}
@@ -11,7 +11,7 @@ returns c =
     let b = g .before .before .before .before in
     let r = b .before in
     let st = r .before .before .before .before .before .before in
-    let e = b .obey .ensures in
+    let e = b .execute .ensures in
     (e .0, recorded _ _ _ _ _ (st .pre .1) (r .read .ensures .0) (e .1) (g .get8 .ensures .0) (p .put-answer .ensures))
 
 pub answer-spec : {M : Type 1} → statement M
