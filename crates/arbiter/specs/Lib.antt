@@ -1,4 +1,3 @@
 pub mod Word
 pub mod Turns
 pub mod Arbiter
-pub mod Examples

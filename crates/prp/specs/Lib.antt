@@ -1,4 +1,3 @@
 pub mod Pages
 pub mod Walk
 pub mod Answer
-pub mod Examples

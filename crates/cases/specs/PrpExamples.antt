@@ -1,13 +1,13 @@
--- Worked examples, by computing.
+-- Worked examples of the page walk, computed from the definitions.
 use Prim.Native.Nat.{ℕ, _+_, _-_, _*_, _/_}
 use mathlib.Core.Path.{_≡_, refl}
 use mathlib.Core.List.{List, [], _∷_, _++_}
 use lib.ListN.{replicate}
 use Rattle.rules.specs.Rules.{settle}
 use Rattle.le.specs.Le.{le, leAt}
 use Rattle.prp.specs.Pages.{pageSize, pagesTouched, split, byteCounts}
 use Rattle.prp.specs.Walk.{Walk, refused, found, after, inMemory, lastOfPage, readEntry, list, dataPages, beforeWalk, pageWalk}
 use Rattle.prp.specs.Answer.{answer, refusalOf, pagesOf, readsOf}
 
 -- a memory of 12,288 bytes: two list entries at 1000h, one at 2FF0h, and the last at 2FF8h
 abbrev memory : ℕ → List ℕ

@@ -1,21 +1,20 @@
--- Worked examples of turns, levels and the refill, computed from the definitions.
+-- Worked examples of arbitration, of turns, levels and the refill, computed from the definitions.
 use Prim.Native.Nat.{ℕ, zero, suc, _+_, _^_}
 use mathlib.Core.Bool.{true, false}
 use mathlib.Core.List.{List, [], _∷_, _++_}
 use mathlib.Core.Path.{_≡_, refl}
 use lib.ListN.{drop}
 use Rattle.bits.specs.Bits.{isSet, first, someBelow}
 use Rattle.arbiter.specs.declared.Remainder.the-variants.{Left}
 use Rattle.arbiter.specs.declared.Level.{Level}
-use Rattle.arbiter.specs.declared.LevelTurn.the-variants.{Served}
 use Rattle.arbiter.specs.declared.Arbiter.{Arbiter}
 use Rattle.arbiter.specs.declared.Candidates.{Candidates}
 use Rattle.arbiter.specs.declared.Chosen.{Chosen}
 use Rattle.arbiter.specs.declared.Chosen.the-variants.{Queue, Nobody}
 use Rattle.arbiter.specs.Word.{burstOf}
 use Rattle.arbiter.specs.Turns.{nextAfter, turn}
 use Rattle.arbiter.specs.Arbiter.{withLevels, withCredit, fresh, ready, levelTurn, someWaits, someReady, refilledIfDue, byGroup}
-use Rattle.arbiter.specs.Arbiter.{byLevel, byWeight, choice}
+use Rattle.arbiter.specs.Arbiter.{byLevel, byWeight, choice, levelAnswer}
 
 abbrev pub maskOfIds : List ℕ → ℕ
 maskOfIds [] = 0
@@ -59,6 +58,10 @@ credits a = a .high .credit ∷ a .medium .credit ∷ a .low .credit ∷ []
 abbrev pub held : ℕ → ℕ → ℕ → Level
 held i left credit = record { group = record { holder = i; remainder = Left left }; credit = credit }
 
+-- the turn of a fresh level with so much credit at a burst, where queue 1 is its candidate
+abbrev pub turnOf1 : ℕ → ℕ → ℕ × ℕ × Level
+turnOf1 burst credit = levelAnswer (held 15 0 credit) (levelTurn (burstOf burst) (held 15 0 credit) (isSet (maskOfIds (1 ∷ []))))
+
 -- weights 2, 3 and 4, of which 0, 1 and 4 are left
 abbrev pub spent : Arbiter
 spent =
@@ -72,9 +75,9 @@ HighWeights =
     × (credits (fresh true 0x7FFF8000) ≡ 128 ∷ 256 ∷ 129 ∷ [])
     × (credits (fresh true 0x807FFF00) ≡ 129 ∷ 128 ∷ 256 ∷ [])
     -- a level's full remainder, and what a first serving leaves of it: burst 7 and weight 256, burst 64 and weights 129 and 3
-    × (levelTurn (burstOf 7) (held 15 0 256) (isSet (maskOfIds (1 ∷ []))) ≡ Served 1 (held 1 255 255))
-    × (levelTurn (burstOf 6) (held 15 0 129) (isSet (maskOfIds (1 ∷ []))) ≡ Served 1 (held 1 63 128))
-    × (levelTurn (burstOf 6) (held 15 0 3) (isSet (maskOfIds (1 ∷ []))) ≡ Served 1 (held 1 2 2))
+    × (turnOf1 7 256 ≡ (0, 1, held 1 255 255))
+    × (turnOf1 6 129 ≡ (0, 1, held 1 63 128))
+    × (turnOf1 6 3 ≡ (0, 1, held 1 2 2))
     -- so that under burst 7 a queue of the high, medium or low level is served 256 or 129 times before another has its turn
     × (drop 255 (named (fresh true 0xFF000007) (times 257 (highs (1 ∷ 2 ∷ [])))) ≡ 1 ∷ 2 ∷ [])
     × (drop 128 (named (fresh true 0x00800007) (times 130 (mediums (1 ∷ 2 ∷ [])))) ≡ 1 ∷ 2 ∷ [])
