@@ -69,7 +69,7 @@ fn whole_at(trace: &[u8], at: usize) -> Record
 }
 
 // The record that begins at a place.
-pub fn record_at(trace: &[u8], at: usize) -> Record
+fn record_at(trace: &[u8], at: usize) -> Record
     ensures { λ r. ⌜ r ≡ recordAt (now (trace .entry)) at ⌝ }
     ensures { λ r. ⌜ numberIn (asked r) ≡ refusalAt (now (trace .entry)) at ⌝ }
 {
@@ -96,14 +96,14 @@ pub fn next_at(trace: &[u8], at: usize) -> usize
 }
 
 // A reader at the start of a trace.
-pub fn new<'a>(trace: &'a [u8]) -> Reader<'a>
+pub(crate) fn new<'a>(trace: &'a [u8]) -> Reader<'a>
     ensures { λ r. ⌜ (r .trace ≡ trace .entry) × (r .at ≡ 0) ⌝ }
 {
     Reader { trace, at: 0 }
 }
 
 // The record that a reader stands on.
-pub fn next<'a>(r: Reader<'a>) -> Record
+pub(crate) fn next<'a>(r: Reader<'a>) -> Record
     ensures { λ x. ⌜ x ≡ recordAt (now (r .entry .trace)) (r .entry .at) ⌝ }
     ensures { λ x. ⌜ numberIn (asked x) ≡ refusalAt (now (r .entry .trace)) (r .entry .at) ⌝ }
 {
@@ -111,7 +111,7 @@ pub fn next<'a>(r: Reader<'a>) -> Record
 }
 
 // The reader, moved on to the next record.
-pub fn moved<'a>(r: Reader<'a>) -> Reader<'a>
+pub(crate) fn moved<'a>(r: Reader<'a>) -> Reader<'a>
     ensures { λ q. ⌜ (q .trace ≡ r .entry .trace) × (q .at ≡ nextAt (now (r .entry .trace)) (r .entry .at)) ⌝ }
 {
     Reader {
