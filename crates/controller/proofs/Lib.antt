@@ -13,7 +13,9 @@ pub mod Unserved
 pub mod Submitted
 pub mod CountsOne
 pub mod Links
+pub mod Lasting
 pub mod Numbered
+pub mod Conserved
 pub mod Matched
 pub mod Unnumbered
 pub mod Apart

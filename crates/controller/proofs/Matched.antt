@@ -1,11 +1,9 @@
 -- An inspector who has the answers alone matches each completion to its start by the number: a finish answers the number under which
 -- its tag was last taken, and no number is answered twice. Assumes nothing.
-use Prim.Native.Nat.{ℕ, _+_, _<_}
+use Prim.Native.Nat.{ℕ}
 use mathlib.Core.Bool.{Bool, true}
-use mathlib.Core.List.{List, [], _∷_, _++_, foldl}
-use mathlib.Core.Logic.{⊎-elim}
+use mathlib.Core.List.{List, [], _∷_, foldl}
 use mathlib.Core.Path.{_≡_, refl, sym, _∙_}
-use native.Mathlib.Omega.{arith}
 use lib.ListN.{length, getD, set, length-set}
 use borrow.Author.Tests.{eq-eqb, ne-eqb}
 use Rattle.bits.specs.Tags.{givenBack}
@@ -19,17 +17,17 @@ use Rattle.controller.specs.Starting.{oneTaken, pairTaken}
 use Rattle.controller.specs.Finishing.{unlinked, finishedController}
 use Rattle.controller.specs.Answers.{FinishAnswer, finished, startsIn, Outcome}
 use Rattle.controller.specs.Calls.{Call, finish, perform, Reachable, fresh, after}
-use Rattle.controller.specs.Refusing.{Among}
 use Rattle.controller.specs.Steps.{Given, Step, steps, final}
 use Rattle.controller.specs.Book.{update}
-use Rattle.controller.specs.Numbers.{noted, notes, finishedIn, numbersFinished}
+use Rattle.controller.specs.Numbers.{noted, notes, numbersFinished}
 use Rattle.controller.proofs.Lists.{set-ind}
-use Rattle.controller.proofs.Outstanding.{out-set, taken-other, back-gone, back-was}
+use Rattle.controller.proofs.Outstanding.{taken-other, back-was}
 use Rattle.controller.proofs.Unlinked.{unlinked-number}
 use Rattle.controller.proofs.Made.{takes-one, takes-pair, finishes, Commands, refused-leaves, done-leaves, changes, of-commands}
 use Rattle.controller.proofs.Made.{made}
 use Rattle.controller.proofs.Validity.{none-out, valid}
-use Rattle.controller.proofs.Numbered.{Numbers, numbers, finish-number}
+use Rattle.controller.proofs.Numbered.{finish-number}
+use Rattle.controller.proofs.Conserved.{Once, conserved}
 
 -- ---- the number under which a tag was last taken
 
@@ -71,69 +69,6 @@ notes-kept (g ∷ gs) f {c} r h =
     notes-kept gs _ (after r (g .memory) (g .call))
     (noted-kept f (valid r) h (of-commands (made c (g .memory) (valid r .free-64) (g .call))))
 
--- ---- no number is answered twice
-
--- no number stands twice in the list
-abbrev pub Once : List ℕ → Type 0
-Once [] = Unit {0}
-Once (n ∷ ns) = (Among n ns → ⊥) × Once ns
-
--- the numbers that were answered lie below the next, and no outstanding command bears one of them
-record Answered (ns : List ℕ) (ks : List Command) (free n : ℕ) : Type 0 where
-  pub low : (k : ℕ) → Among k ns → k < n
-  pub gone : (t : ℕ) → outstanding free t ≡ true → Among (getD ks t noCommand .number) ns → ⊥
-  pub once : Once ns
-
-taken-answered : {ns : List ℕ} (ks : List Command) {free t left n next : ℕ} (k : Command) → length ks ≡ 64 → OneTaken free t left
-    → k .number ≡ n → next ≡ n + 1 → Answered ns ks free n → Answered ns (set ks t k) left next
-taken-answered {ns} ks {t = t} {left = left} {n = n} k many w e f h =
-    record {
-      low = λ x a. omega (arith, f, h .low x a);
-      gone =
-          set-ind ks t k noCommand (λ j x. outstanding left j ≡ true → Among (x .number) ns → ⊥) (rw many (w .low))
-          (λ o a. omega (arith, e, h .low (k .number) a)) (λ j d o. h .gone j (sym (taken-other w j d) ∙ o));
-      once = h .once;
-    }
-
-finished-answered : {ns : List ℕ} (ks : List Command) (free tag second status : ℕ) {n : ℕ} → outstanding free tag ≡ true
-    → Numbers ks free n → Answered ns ks free n
-    → Answered (getD ks tag noCommand .number ∷ ns) (unlinked ks second status) (givenBack free tag) n
-finished-answered {ns} ks free tag second status out b h =
-    let same = unlinked-number ks second status in
-    record {
-      low = λ k a. ⊎-elim (λ (e : k ≡ getD ks tag noCommand .number). omega (arith, e, b .below tag out)) (h .low k) a;
-      gone = λ t o a.
-          let p = back-was free tag out t o in
-          let d = back-gone free tag (out-set free tag out .0) t o in
-          ⊎-elim (λ e. d (b .distinct t tag p out (sym (same t) ∙ e))) (λ x. h .gone t p (rw (same t) at x)) a;
-      once = (h .gone tag out, h .once);
-    }
-
-abbrev AnsweredIn : List ℕ → Controller → Type 0
-AnsweredIn ns c = Answered ns (c .commands) (c .free) (c .nextNumber)
-
-answered-kept : {ns : List ℕ} {c : Controller} {m : Memory} {call : Call} {o : Outcome} → Reachable c → AnsweredIn ns c
-    → Commands c m call o → AnsweredIn (finishedIn (o .answer) ++ ns) (o .controller)
-unfolding oneTaken pairTaken finishedController
-answered-kept r h (refused-leaves call n xs) = h
-answered-kept r h (done-leaves call xs ys) = h
-answered-kept {c = c} r h (changes (takes-one id a t left s e w)) =
-    taken-answered (c .commands) _ (valid r .commands-64) w refl refl h
-answered-kept {c = c} r h (changes (takes-pair id a t u left s e w)) =
-    taken-answered (set (c .commands) t _) _ (length-set (c .commands) t _ ∙ valid r .commands-64) (w .second) refl (omega arith)
-    (taken-answered (c .commands) _ (valid r .commands-64) (w .first) refl refl h)
-answered-kept {c = c} r h (changes (finishes tag status result f)) =
-    finished-answered (c .commands) (c .free) tag _ _ (f .out) (numbers r) h
-
-abbrev gathers : List ℕ → Step → List ℕ
-gathers ns s = finishedIn (s .outcome .answer) ++ ns
-
-all-answered : (gs : List Given) (ns : List ℕ) {c : Controller} → Reachable c → AnsweredIn ns c
-    → AnsweredIn (foldl gathers ns (steps c gs)) (final c gs)
-all-answered [] ns r h = h
-all-answered (g ∷ gs) ns {c} r h =
-    all-answered gs _ (after r (g .memory) (g .call)) (answered-kept r h (of-commands (made c (g .memory) (valid r .free-64) (g .call))))
-
 -- ---- any list of calls from a fresh controller
 
 module _ (weighted : Bool) (word : ℕ) (gs : List Given) where
@@ -151,5 +86,4 @@ module _ (weighted : Bool) (word : ℕ) (gs : List Given) where
 
   -- no two finishes answer the same number
   pub never-twice : Once (numbersFinished c gs)
-  never-twice =
-      all-answered gs [] (fresh weighted word) (record { low = λ k a. absurd a; gone = λ t o. absurd (none-out t o); once = tt }) .once
+  never-twice = conserved weighted word gs .once
