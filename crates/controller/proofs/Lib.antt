@@ -14,6 +14,7 @@ pub mod Submitted
 pub mod CountsOne
 pub mod Links
 pub mod Lasting
+pub mod Leaving
 pub mod Numbered
 pub mod Conserved
 pub mod Matched
