@@ -6,3 +6,4 @@ pub mod Mechanisms
 pub mod Choice
 pub mod Priority
 pub mod Weights
+pub mod Changes

@@ -15,6 +15,7 @@ pub mod CountsOne
 pub mod Links
 pub mod Lasting
 pub mod Leaving
+pub mod Turning
 pub mod Numbered
 pub mod Conserved
 pub mod Matched
