@@ -138,7 +138,8 @@ answered-kept {c = c} v b h (changes (finishes tag status result f)) =
 
 -- ---- any list of calls from a fresh controller
 
-abbrev gathers : List ℕ → Step → List ℕ
+-- the numbers answered, with those of one more step
+abbrev pub gathers : List ℕ → Step → List ℕ
 gathers ns s = finishedIn (s .outcome .answer) ++ ns
 
 all-answered : (gs : List Given) (ns : List ℕ) {c : Controller} → Reachable c → AnsweredIn ns c

@@ -32,6 +32,7 @@ pub mod BookedStart
 pub mod BookedFinish
 pub mod Demand
 pub mod Unread
+pub mod Postings
 pub mod Doorbells
 pub mod Lifetimes
 pub mod Undisturbed
