@@ -1,3 +1,4 @@
 pub mod Completions
 pub mod Submissions
 pub mod Exactly
+pub mod Untouched

@@ -6,6 +6,7 @@ pub mod Addresses
 pub mod Outcomes
 pub mod Between
 pub mod Buffers
+pub mod Untouched
 pub mod Whole
 pub mod Numbers
 pub mod Facts
