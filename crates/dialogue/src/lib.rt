@@ -4,11 +4,11 @@ ghost use Prim.Native.Nat.{_+_, _≤_};
 ghost use lib.ListN.{length};
 ghost use Rattle.dialogue.specs.Kept.{Kept};
 ghost use Rattle.text.specs.Sizes.{chunkBytes, heldBytes, memoryBytes, outBytes, roomBytes};
+use conversation::Conversation;
+use conversation::form::Form;
 use libc::STDERR_FILENO;
 use libc::STDIN_FILENO;
 use lines::Found;
-use session::Session;
-use session::form::Form;
 use text::sizes::CHUNK_BYTES;
 use text::sizes::HELD_BYTES;
 use text::sizes::MEMORY_BYTES;
@@ -18,7 +18,7 @@ use text::sizes::ROOM_BYTES;
 // Of how many lines the answers are written out, and how many bytes of answers are not yet; whether the conversation goes on,
 // and the form of its answers.
 struct Dialogue {
-    session: Session,
+    conversation: Conversation,
     answered: u64,
     unwritten: usize,
     open: bool,
@@ -55,8 +55,8 @@ fn write_out(mut s: Dialogue, out: &[u8]) -> Dialogue
     if error > 0 {
         return fail(s, b"write", error);
     }
-    let session = s.session;
-    let lines = session.lines;
+    let conversation = s.conversation;
+    let lines = conversation.lines;
     s.answered = lines.ended;
     s
 }
@@ -69,8 +69,8 @@ fn with_room(s: Dialogue, out: &[u8]) -> Dialogue
     if OUT_BYTES - s.unwritten < ROOM_BYTES {
         return write_out(s, out);
     }
-    let session = s.session;
-    let lines = session.lines;
+    let conversation = s.conversation;
+    let lines = conversation.lines;
     if lines.at == lines.count {
         return write_out(s, out);
     }
@@ -101,10 +101,19 @@ fn step(
 {
     let at = s.unwritten;
     let form = s.form;
-    let step = session::next(s.session, STDIN_FILENO, form, memory, chunk, line, out, at);
-    let session = step.session;
+    let step = conversation::next(
+        s.conversation,
+        STDIN_FILENO,
+        form,
+        memory,
+        chunk,
+        line,
+        out,
+        at,
+    );
+    let conversation = step.conversation;
     let found = step.found;
-    s.session = session;
+    s.conversation = conversation;
     s.unwritten = step.end;
     match found {
         Found::Line | Found::Nothing => s,
@@ -133,9 +142,9 @@ fn turn(
 fn first(form: Form) -> Dialogue
     ensures { λ r. ⌜ Kept r ⌝ }
 {
-    let session = session::first();
+    let conversation = conversation::first();
     Dialogue {
-        session: session,
+        conversation: conversation,
         answered: 0,
         unwritten: 0,
         open: true,

@@ -25,8 +25,8 @@ fn run(setup: i32, trace: i32) {
     let mut memory = [0u8; MEMORY_BYTES];
     let s = setup::run(setup, &mut memory);
     if s.good {
-        let session = s.session;
-        play::run(session.shell, trace, &mut memory);
+        let conversation = s.conversation;
+        play::run(conversation.shell, trace, &mut memory);
     }
 }
 

@@ -2,15 +2,15 @@
 ghost use mathlib.Core.Path.{_≡_};
 ghost use Prim.Native.Nat.{_≤_};
 ghost use lib.ListN.{length};
-ghost use Rattle.session.specs.Kept.{Kept};
+ghost use Rattle.conversation.specs.Kept.{Kept};
 ghost use Rattle.shell.specs.Ready.{Ready};
 ghost use Rattle.text.specs.Sizes.{chunkBytes, heldBytes, memoryBytes, outBytes};
 use crate::fault::say_at;
 use crate::line::put_refused_line;
+use conversation::Conversation;
+use conversation::form::Form;
 use libc::STDERR_FILENO;
 use lines::Found;
-use session::Session;
-use session::form::Form;
 use text::line::next_word;
 use text::sizes::CHUNK_BYTES;
 use text::sizes::HELD_BYTES;
@@ -22,7 +22,7 @@ mod line;
 
 // Whether lines are left, and whether nothing has stopped it.
 pub struct Setup {
-    pub session: Session,
+    pub conversation: Conversation,
     pub open: bool,
     pub good: bool,
 }
@@ -64,16 +64,16 @@ fn judge(line: &[u8], n: usize, number: u64, good: bool, refusal: u64, out: &mut
 }
 
 fn ended(mut s: Setup) -> Setup
-    requires { ⌜ Kept (s .session) ⌝ }
-    ensures { λ r. ⌜ Kept (r .session) ⌝ }
+    requires { ⌜ Kept (s .conversation) ⌝ }
+    ensures { λ r. ⌜ Kept (r .conversation) ⌝ }
 {
     s.open = false;
     s
 }
 
 fn failed(mut s: Setup, lines: u64) -> Setup
-    requires { ⌜ Kept (s .session) ⌝ }
-    ensures { λ r. ⌜ Kept (r .session) ⌝ }
+    requires { ⌜ Kept (s .conversation) ⌝ }
+    ensures { λ r. ⌜ Kept (r .conversation) ⌝ }
 {
     say_at(
         b"playback: setup, line",
@@ -92,15 +92,15 @@ fn step(
     line: &mut [u8],
     out: &mut [u8],
 ) -> Setup
-    requires { ⌜ Kept (s .session) × (memoryBytes ≤ length (now memory)) × (outBytes ≡ length (now out)) ⌝ }
+    requires { ⌜ Kept (s .conversation) × (memoryBytes ≤ length (now memory)) × (outBytes ≡ length (now out)) ⌝ }
     requires { ⌜ (length (now chunk) ≡ chunkBytes) × (length (now line) ≡ heldBytes) ⌝ }
-    ensures { λ r. ⌜ Kept (r .session) ⌝ }
+    ensures { λ r. ⌜ Kept (r .conversation) ⌝ }
 {
-    let step = session::next(s.session, fd, Form::Alone, memory, chunk, line, out, 0);
-    let session = step.session;
-    let lines = session.lines;
+    let step = conversation::next(s.conversation, fd, Form::Alone, memory, chunk, line, out, 0);
+    let conversation = step.conversation;
+    let lines = conversation.lines;
     let found = step.found;
-    s.session = session;
+    s.conversation = conversation;
     match found {
         Found::Line => {
             s.good = judge(line, step.length, lines.ended, step.good, step.refusal, out);
@@ -120,18 +120,18 @@ fn turn(
     line: &mut [u8; HELD_BYTES],
     out: &mut [u8; OUT_BYTES],
 ) -> Setup
-    requires { ⌜ Kept (s .session) ⌝ }
-    ensures { λ r. ⌜ Kept (r .session) ⌝ }
+    requires { ⌜ Kept (s .conversation) ⌝ }
+    ensures { λ r. ⌜ Kept (r .conversation) ⌝ }
 {
     step(s, fd, memory, chunk, line, out)
 }
 
 fn first() -> Setup
-    ensures { λ r. ⌜ Kept (r .session) ⌝ }
+    ensures { λ r. ⌜ Kept (r .conversation) ⌝ }
 {
-    let session = session::first();
+    let conversation = conversation::first();
     Setup {
-        session: session,
+        conversation: conversation,
         open: true,
         good: true,
     }
@@ -140,7 +140,7 @@ fn first() -> Setup
 // Answers all lines, or those before one that is bad. A proved loop has to end: the turns are counted down, from a number that no
 // run uses up.
 pub fn run(fd: i32, memory: &mut [u8; MEMORY_BYTES]) -> Setup
-    ensures { λ r. ⌜ Ready (r .session .shell) ⌝ }
+    ensures { λ r. ⌜ Ready (r .conversation .shell) ⌝ }
 {
     let mut chunk = [0u8; CHUNK_BYTES];
     let mut line = [0u8; HELD_BYTES];

@@ -1,4 +1,4 @@
--- `setup::step` keeps the session: a line that ended lies in its buffer. Assumes nothing.
+-- `setup::step` keeps the conversation: a line that ended lies in its buffer. Assumes nothing.
 use borrow.Author.Needs.{needs}
 use Rattle.setup.proofs.step.Statement.{statement}
 use Rattle.setup.proofs.step.Tie as tie

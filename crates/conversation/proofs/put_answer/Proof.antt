@@ -1,7 +1,7 @@
--- `session::put_answer` leaves the shell ready: the line, its answer and what is wanted lie in the buffer. Assumes nothing.
+-- `conversation::put_answer` leaves the shell ready: the line, its answer and what is wanted lie in the buffer. Assumes nothing.
 use borrow.Author.Needs.{needs}
-use Rattle.session.proofs.put_answer.Statement.{statement}
-use Rattle.session.proofs.put_answer.Tie as tie
+use Rattle.conversation.proofs.put_answer.Statement.{statement}
+use Rattle.conversation.proofs.put_answer.Tie as tie
 
 pub put-answer-spec : {M : Type 1} → statement M
 put-answer-spec =

@@ -1,11 +1,11 @@
--- `session::answer` keeps the session: the line is no longer than its buffer. Assumes nothing.
+-- `conversation::answer` keeps the conversation: the line is no longer than its buffer. Assumes nothing.
 use borrow.Author.Needs.{needs}
 use Prim.Native.Nat.{ℕ}
 use lib.Seq.{length-take-le}
 use mathlib.Core.Path.{sym}
 use Rattle.lines.proofs.Prefix.{at-most}
-use Rattle.session.proofs.answer.Statement.{statement}
-use Rattle.session.proofs.answer.Tie as tie
+use Rattle.conversation.proofs.answer.Statement.{statement}
+use Rattle.conversation.proofs.answer.Tie as tie
 
 put-answer-requires : tie.Need-put-answer-requires
 put-answer-requires c κs =

@@ -1,8 +1,8 @@
-// A session: the lines of a file, each given to a shell with its number and answered.
+// A conversation: the lines of a file, each given to a shell with its number and answered.
 ghost use mathlib.Core.Path.{_≡_};
 ghost use Prim.Native.Nat.{_+_, _≤_};
 ghost use lib.ListN.{length};
-ghost use Rattle.session.specs.Kept.{Kept};
+ghost use Rattle.conversation.specs.Kept.{Kept};
 ghost use Rattle.shell.specs.Ready.{Ready};
 ghost use Rattle.text.specs.Sizes.{chunkBytes, heldBytes, memoryBytes, outBytes, roomBytes};
 use crate::form::Form;
@@ -15,15 +15,15 @@ use shell::Shell;
 
 pub mod form;
 
-pub struct Session {
+pub struct Conversation {
     pub shell: Shell,
     pub lines: Lines,
 }
 
-// The session after a step, what the step found, and the place after what it put. Of a line that ended: its length, whether it was
+// The conversation after a step, what the step found, and the place after what it put. Of a line that ended: its length, whether it was
 // good, and the number by which a change that it asked for was refused, 0 for none.
 pub struct Step {
-    pub session: Session,
+    pub conversation: Conversation,
     pub found: Found,
     pub end: usize,
     pub length: usize,
@@ -32,24 +32,24 @@ pub struct Step {
 }
 
 // No line is read yet.
-pub fn first() -> Session
+pub fn first() -> Conversation
     ensures { λ r. ⌜ Kept r ⌝ }
 {
     let shell = Shell::new();
     let lines = lines::first();
-    Session {
+    Conversation {
         shell: shell,
         lines: lines,
     }
 }
 
 // A step that ended a line of so many bytes, which is answered.
-fn with_line(s: Session, end: usize, length: usize, good: bool, refusal: u64) -> Step
+fn with_line(s: Conversation, end: usize, length: usize, good: bool, refusal: u64) -> Step
     requires { ⌜ Kept s × (end ≤ outBytes) × (length ≤ heldBytes) ⌝ }
-    ensures { λ r. ⌜ Kept (r .session) × (r .end ≤ outBytes) × (r .length ≤ heldBytes) ⌝ }
+    ensures { λ r. ⌜ Kept (r .conversation) × (r .end ≤ outBytes) × (r .length ≤ heldBytes) ⌝ }
 {
     Step {
-        session: s,
+        conversation: s,
         found: Found::Line,
         end: end,
         length: length,
@@ -59,12 +59,12 @@ fn with_line(s: Session, end: usize, length: usize, good: bool, refusal: u64) ->
 }
 
 // A step that ends no line.
-fn without_line(s: Session, found: Found, at: usize) -> Step
+fn without_line(s: Conversation, found: Found, at: usize) -> Step
     requires { ⌜ Kept s × (at ≤ outBytes) ⌝ }
-    ensures { λ r. ⌜ Kept (r .session) × (r .end ≤ outBytes) × (r .length ≤ heldBytes) ⌝ }
+    ensures { λ r. ⌜ Kept (r .conversation) × (r .end ≤ outBytes) × (r .length ≤ heldBytes) ⌝ }
 {
     Step {
-        session: s,
+        conversation: s,
         found: found,
         end: at,
         length: 0,
@@ -96,7 +96,7 @@ fn put_answer(
 
 // Answers the line of n bytes that stands at the start of a buffer.
 fn answer(
-    mut s: Session,
+    mut s: Conversation,
     form: Form,
     memory: &mut [u8],
     line: &[u8],
@@ -106,7 +106,7 @@ fn answer(
 ) -> Step
     requires { ⌜ Kept s × (at + roomBytes ≤ outBytes) × (n ≤ heldBytes) × (heldBytes ≡ length (now line)) ⌝ }
     requires { ⌜ (memoryBytes ≤ length (now memory)) × (outBytes ≡ length (now out)) ⌝ }
-    ensures { λ r. ⌜ Kept (r .session) × (r .end ≤ outBytes) × (r .length ≤ heldBytes) ⌝ }
+    ensures { λ r. ⌜ Kept (r .conversation) × (r .end ≤ outBytes) × (r .length ≤ heldBytes) ⌝ }
 {
     let lines = s.lines;
     let answered = put_answer(s.shell, lines.ended, form, memory, &line[..n], out, at);
@@ -117,7 +117,7 @@ fn answer(
 
 // Takes a step in a file. A line that ended stands at the start of `line`, and is answered from `at` on.
 pub fn next(
-    s: Session,
+    s: Conversation,
     fd: i32,
     form: Form,
     memory: &mut [u8],
@@ -128,7 +128,7 @@ pub fn next(
 ) -> Step
     requires { ⌜ Kept s × (at + roomBytes ≤ outBytes) × (memoryBytes ≤ length (now memory)) × (outBytes ≡ length (now out)) ⌝ }
     requires { ⌜ (length (now chunk) ≡ chunkBytes) × (length (now line) ≡ heldBytes) ⌝ }
-    ensures { λ r. ⌜ Kept (r .session) × (r .end ≤ outBytes) × (r .length ≤ heldBytes) ⌝ }
+    ensures { λ r. ⌜ Kept (r .conversation) × (r .end ≤ outBytes) × (r .length ≤ heldBytes) ⌝ }
 {
     let read = lines::next(fd, s.lines, chunk, line);
     let lines = read.lines;

@@ -1,12 +1,12 @@
--- `session::form::copy` stays in its room and ends. Assumes nothing.
+-- `conversation::form::copy` stays in its room and ends. Assumes nothing.
 use borrow.Author.Needs.{needs}
 use Prim.Native.Nat.{_+_, _≤_, _-_}
 use mathlib.Core.Path.{_≡_}
 use native.Mathlib.Omega.{arith}
 use borrow.Author.Tests.{ltb-true}
 use lib.ListN.{length, length-set}
-use Rattle.session.proofs.form.copy.Statement.{statement}
-use Rattle.session.proofs.form.copy.Tie as tie
+use Rattle.conversation.proofs.form.copy.Statement.{statement}
+use Rattle.conversation.proofs.form.copy.Tie as tie
 
 abbrev Inv-loop : tie.InvT-loop
 Inv-loop out₀ at text end₀ i₀ out end i = (length out ≡ length out₀) × (end ≤ length out₀) × (end ≡ at + i) × (i ≤ length text)

@@ -1,23 +1,22 @@
--- `session::form::wanted_at` stays in the line and ends. Assumes nothing.
+-- `conversation::form::is_same` stays in both texts and ends. Assumes nothing.
 use borrow.Author.Needs.{needs}
 use Prim.Native.Nat.{_≤_, _-_}
 use lib.ListN.{length}
-use Rattle.session.proofs.form.wanted_at.Statement.{statement}
-use Rattle.session.proofs.form.wanted_at.Tie as tie
+use Rattle.conversation.proofs.form.is_same.Statement.{statement}
+use Rattle.conversation.proofs.form.is_same.Tie as tie
 
 abbrev Inv-loop : tie.InvT-loop
-Inv-loop line i₀ i = i ≤ length line
+Inv-loop a b i₀ i = i ≤ length a
 
 abbrev μ-loop : tie.MeasureT-loop
-μ-loop line i₀ i = length line - i
+μ-loop a b i₀ i = length a - i
 
-pub wanted-at-spec : {M : Type 1} → statement M
-wanted-at-spec =
+pub is-same-spec : {M : Type 1} → statement M
+is-same-spec =
     tie.close
     (tie.spec
     Inv-loop
     μ-loop
-    (λ c. search needs)
     (λ c. search needs)
     (λ c. search needs)
     (λ c. search needs)

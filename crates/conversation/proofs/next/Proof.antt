@@ -1,7 +1,7 @@
--- `session::next` keeps the session: a line that ended lies in its buffer. Assumes nothing.
+-- `conversation::next` keeps the conversation: a line that ended lies in its buffer. Assumes nothing.
 use borrow.Author.Needs.{needs}
-use Rattle.session.proofs.next.Statement.{statement}
-use Rattle.session.proofs.next.Tie as tie
+use Rattle.conversation.proofs.next.Statement.{statement}
+use Rattle.conversation.proofs.next.Tie as tie
 
 answer-requires : tie.Need-answer-requires
 answer-requires c κs =
