@@ -35,8 +35,8 @@ use Rattle.trace.specs.Record.{recordIn}
 use Rattle.trace.specs.Trace.{begun, records}
 use Rattle.replay.specs.Replay.{answerBytes, replay}
 use Rattle.replay.specs.Runs.{replayCalls}
-use Rattle.cases.proofs.Tested.{low-bytes, Shared, calling, afterWriting, shared, allNarrow, shared-typed, allClear, allKept, history}
-use Rattle.cases.proofs.Tested.{entry}
+use Rattle.cases.proofs.Tested.{low-bytes, Shared, calling, afterWriting, shared, allNarrow, shared-typed}
+use Rattle.cases.proofs.Tested.{allClear, allKept, history, entry}
 
 -- ---- the whole case
 

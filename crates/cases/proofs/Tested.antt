@@ -14,7 +14,7 @@ use Rattle.ring.specs.Reader.{phaseIn}
 use Rattle.controller.specs.Controller.{Controller}
 use Rattle.controller.specs.State.{cqAt, freshController}
 use Rattle.controller.specs.Calls.{Call, Reachable, fresh}
-use Rattle.controller.specs.Steps.{Step, given, Run, afterRun, leftBy, allSteps, afterRuns}
+use Rattle.controller.specs.Steps.{Step, given, Run, afterRun, memoryAfter, allSteps, afterRuns}
 use Rattle.controller.specs.Demand.{There, ringOf, Kept, ClearTags, Untouched, Typed, History}
 use Rattle.controller.proofs.MemoryBytes.{bytes-put, run-bytes}
 use Rattle.controller.proofs.Steps.{reached, reached-runs, after-join}
@@ -49,7 +49,7 @@ afterWriting place bytes xs = record { place = place; bytes = bytes; calls = xs 
 abbrev pub shared : Controller → Memory → List Shared → List Run
 shared c m [] = []
 shared c m (x ∷ xs) =
-    let r : Run = record { memory = put m (x .place) (x .bytes); calls = x .calls } in r ∷ shared (afterRun c r) (leftBy c r) xs
+    let r : Run = record { memory = put m (x .place) (x .bytes); calls = x .calls } in r ∷ shared (afterRun c r) (memoryAfter c r) xs
 
 -- what the host writes are bytes, and a result has 32 bits, tested
 abbrev pub allNarrow : List Shared → Bool
@@ -132,14 +132,14 @@ module _ (q : ℕ) where
 
   abbrev pub allKept : Controller → Memory → List Run → Memory → Bool
   allKept c left [] seen = keeps c left seen
-  allKept c left (r ∷ rs) seen = keeps c left (r .memory) && allKept (afterRun c r) (leftBy c r) rs seen
+  allKept c left (r ∷ rs) seen = keeps c left (r .memory) && allKept (afterRun c r) (memoryAfter c r) rs seen
 
   pub untouched : (c : Controller) (left : Memory) (rs : List Run) (seen : Memory) → allKept c left rs seen ≡ true
       → Untouched q c left rs seen
   untouched c left [] seen e = keeps-is c left seen e
   untouched c left (r ∷ rs) seen e =
       let k = and-true (keeps c left (r .memory)) _ e in
-      (λ p. keeps-is c left (r .memory) (k .0), untouched (afterRun c r) (leftBy c r) rs seen (k .1))
+      (λ p. keeps-is c left (r .memory) (k .0), untouched (afterRun c r) (memoryAfter c r) rs seen (k .1))
 
 -- a history of such runs, after any others at the end of which the queue does not exist
 module _ (weighted : Bool) (word : ℕ) (earlier : List Run) (m : Memory) (xs : List Shared) (q : ℕ) (seen : Memory) where

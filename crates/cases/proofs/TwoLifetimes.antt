@@ -1,5 +1,5 @@
--- Demand 3 over two lifetimes of one completion queue: the first begins on a ring full of old tags, into which the host writes meanwhile, and
--- ends with an entry unread; the second is elsewhere, of another size, on a clear ring. Assumes nothing.
+-- Demand 3 over two lifetimes of one completion queue: the first begins on a ring full of old tags, into which the host writes meanwhile,
+-- and ends with an entry unread; the second is elsewhere, of another size, on a clear ring. Assumes nothing.
 use Prim.Native.Nat.{ℕ, _*_, _<_}
 use mathlib.Core.Bool.{false}
 use mathlib.Core.List.{List, [], _∷_, _++_, map}

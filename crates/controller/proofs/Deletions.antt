@@ -28,16 +28,17 @@ use Rattle.controller.proofs.Made.{Mixed, takes-one, takes-pair, finish
 use Rattle.controller.proofs.Made.{deletes-cq, deletes-sq, moves-head, commands, made, new-cq, new-sq, deletable-sq, deletable-cq}
 use Rattle.controller.proofs.Refusals.{done-not}
 use Rattle.controller.proofs.Validity.{candidate-here, sq-below, cq-below, valid}
-use Rattle.controller.proofs.Apart.{RingId, sq, cq, ringAt, bytesOf, without, deletion, sq-gone, cq-gone, Here, stays-or-deleted, of-rings}
+use Rattle.controller.proofs.Apart.{RingId, sq, cq, ringAt, bytesOf, without, deletion, sq-gone, cq-gone, Here}
+use Rattle.controller.proofs.Apart.{stays-or-deleted, of-rings}
 use Rattle.controller.proofs.Apart.{entryOf, ring-ok, others, same-ring, Disjoint, apart}
 use Rattle.controller.proofs.Written.{posts-to}
 use Rattle.controller.proofs.Exactly.{number, ByteInBoth, Shares, ringReasons, createCqReasons, createSqReasons, create-cq}
 use Rattle.controller.proofs.Exactly.{create-sq}
 
 -- an outstanding command's SQ exists, and that SQ's CQ
-pub housed : {c : Controller} → Reachable c → (tag : ℕ) → outstanding (c .free) tag ≡ true
+pub has-queues : {c : Controller} → Reachable c → (tag : ℕ) → outstanding (c .free) tag ≡ true
     → (sqAt c (commandAt c tag .sq) .ring .exists ≡ true) × (cqAt c (cqOf c tag) .ring .exists ≡ true)
-housed r tag o = (valid r .command-sq tag o, posts-to (valid r) tag o)
+has-queues r tag o = (valid r .command-sq tag o, posts-to (valid r) tag o)
 
 -- ---- what a deletion leaves, refused or not
 

@@ -7,7 +7,7 @@ use Rattle.rules.proofs.Tests.{clash}
 use Rattle.le.specs.Memory.{Memory}
 use Rattle.controller.specs.Controller.{Controller}
 use Rattle.controller.specs.State.{cqAt}
-use Rattle.controller.specs.Steps.{Given, Step, made, steps, given, final, Run, runSteps, afterRun, leftBy, allSteps, afterRuns}
+use Rattle.controller.specs.Steps.{Given, Step, made, steps, given, final, Run, runSteps, afterRun, memoryAfter, allSteps, afterRuns}
 use Rattle.controller.specs.Demand.{There, Stays, ClearTags, Untouched}
 
 module _ (q : ℕ) where
@@ -60,5 +60,5 @@ module _ (q : ℕ) where
   earlier-untouched [] ys c left m seen absent u = any-memory ys c left m seen absent u
   earlier-untouched (x ∷ xs) ys c left m seen absent u = (
     λ s e. absurd (clash (still-there-runs (x ∷ xs) ys c s e) absent),
-    earlier-untouched xs ys (afterRun c x) (leftBy c x) m seen absent u,
+    earlier-untouched xs ys (afterRun c x) (memoryAfter c x) m seen absent u,
   )

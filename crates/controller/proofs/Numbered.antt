@@ -50,7 +50,8 @@ taken-numbers ks {free} {t} {left} {n} {next} k many w e f h =
           (λ j d o. omega (arith, f, h .below j (was j d o)));
       distinct =
           set-ind ks t k noCommand
-          (λ j x. (u : ℕ) → outstanding left j ≡ true → outstanding left u ≡ true → x .number ≡ getD (set ks t k) u noCommand .number → j ≡ u)
+          (λ j x. (u : ℕ) → outstanding left j ≡ true → outstanding left u ≡ true → x .number ≡ getD (set ks t k) u noCommand .number
+          → j ≡ u)
           l
           (set-ind ks t k noCommand (λ u y. outstanding left t ≡ true → outstanding left u ≡ true → k .number ≡ y .number → t ≡ u) l
           (λ o p q. refl) (λ u d o p q. absurd (omega (arith, h .below u (was u d p), q, e))))

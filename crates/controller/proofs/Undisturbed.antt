@@ -21,7 +21,7 @@ use Rattle.controller.specs.Create as create
 use Rattle.controller.specs.Create.{createCqRefusal, newCq}
 use Rattle.controller.specs.Calls.{Call, createCq, createSq, deleteCq, deleteSq, tailWrite, headWrite, start, finish, resultOf}
 use Rattle.controller.specs.Calls.{perform, Reachable, fresh, after}
-use Rattle.controller.specs.Steps.{steps, given, final, Run, leftBy, allSteps, afterRuns}
+use Rattle.controller.specs.Steps.{steps, given, final, Run, memoryAfter, allSteps, afterRuns}
 use Rattle.controller.specs.Demand.{There, ClearTags, Untouched, Narrow, Typed, History}
 use Rattle.controller.proofs.Made.{NewCq, new-cq, made}
 use Rattle.controller.proofs.Steps.{after-join, reached-runs}
@@ -124,7 +124,7 @@ module _ (weighted : Bool) (word : ℕ) (earlier : List Run) (earlier-typed : Ty
     pub all-clear : ClearTags q (allSteps first whole)
     all-clear = earlier-clear q earlier (latest ∷ []) first (is-new .absent) (λ s e y. rw here clear, rest .clear)
 
-    pub all-untouched : Untouched q first [] whole (leftBy c latest)
+    pub all-untouched : Untouched q first [] whole (memoryAfter c latest)
     all-untouched = earlier-untouched q earlier (latest ∷ []) first [] m _ (is-new .absent) (λ s e. refl, λ e. refl)
 
     pub all-there : There q (afterRuns first whole)
@@ -136,7 +136,7 @@ module _ (weighted : Bool) (word : ℕ) (earlier : List Run) (earlier-typed : Ty
           weighted = weighted;
           word = word;
           runs = whole;
-          seen = leftBy c latest;
+          seen = memoryAfter c latest;
           q = q;
           typed = typed-join earlier (latest ∷ []) earlier-typed (bytes, (lit< tt, narrow-is calls typed), tt);
           clear = all-clear;

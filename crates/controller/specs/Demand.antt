@@ -13,7 +13,7 @@ use Rattle.controller.specs.State.{cqAt, freshController}
 use Rattle.controller.specs.Answers.{Answer, unlessRefused}
 use Rattle.controller.specs.Calls.{Call, createCq, createSq, deleteCq, deleteSq, tailWrite, headWrite, start, finish}
 use Rattle.controller.specs.Calls.{resultOf}
-use Rattle.controller.specs.Steps.{Step, Run, afterRun, leftBy, allSteps, afterRuns}
+use Rattle.controller.specs.Steps.{Step, Run, afterRun, memoryAfter, allSteps, afterRuns}
 use Rattle.controller.specs.Book.{Book, empty, enter}
 
 -- the book after the steps
@@ -89,7 +89,7 @@ ClearTags q (s ∷ ss) =
 abbrev pub Untouched : ℕ → Controller → Memory → List Run → Memory → Type 0
 Untouched q c left [] seen = Kept c q left seen
 Untouched q c left (r ∷ rs) seen =
-    (Stays q (allSteps c (r ∷ rs)) → Kept c q left (r .memory)) × Untouched q (afterRun c r) (leftBy c r) rs seen
+    (Stays q (allSteps c (r ∷ rs)) → Kept c q left (r .memory)) × Untouched q (afterRun c r) (memoryAfter c r) rs seen
 
 -- what the types of the code say: a result has 32 bits, and a memory holds bytes
 abbrev pub Narrow : List Call → Type 0

@@ -57,8 +57,8 @@ runSteps c r = steps c (given c (r .memory) (r .calls))
 abbrev pub afterRun : Controller → Run → Controller
 afterRun c r = final c (given c (r .memory) (r .calls))
 
-abbrev pub leftBy : Controller → Run → Memory
-leftBy c r = leaves c (r .memory) (r .calls)
+abbrev pub memoryAfter : Controller → Run → Memory
+memoryAfter c r = leaves c (r .memory) (r .calls)
 
 -- the steps of runs, and the controller after them
 abbrev pub allSteps : Controller → List Run → List Step

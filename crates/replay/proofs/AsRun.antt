@@ -1,5 +1,5 @@
--- A replay is the run of the calls that it makes; in demand 3 such a run asks for nothing but that its memory is one of bytes and that nobody
--- else has written into the ring before it. Assumes nothing.
+-- A replay is the run of the calls that it makes; in demand 3 such a run asks for nothing but that its memory is one of bytes and that
+-- nobody else has written into the ring before it. Assumes nothing.
 use Prim.Native.Nat.{ℕ, _*_, _<_, _^_}
 use mathlib.Core.Bool.{true, false}
 use mathlib.Core.List.{List, [], _∷_, _++_}
@@ -18,7 +18,7 @@ use Rattle.controller.specs.Starting.{oneTaken, pairTaken}
 use Rattle.controller.specs.Finishing.{cqOf, finishedController, posted}
 use Rattle.controller.specs.Calls.{Call, createCq, createSq, deleteCq, deleteSq, tailWrite, headWrite, start, finish, resultOf}
 use Rattle.controller.specs.Calls.{perform, Reachable, after}
-use Rattle.controller.specs.Steps.{Step, steps, given, final, leaves, runSteps, afterRun, leftBy}
+use Rattle.controller.specs.Steps.{Step, steps, given, final, leaves, runSteps, afterRun, memoryAfter}
 use Rattle.controller.specs.Demand.{ClearTags, Narrow}
 use Rattle.controller.proofs.Lists.{set-same}
 use Rattle.controller.proofs.Made.{takes-one, takes-pair, finishes, Made, refuses, marks, creates-cq, creates-sq, moves-tail, moves-head}
@@ -53,7 +53,7 @@ played-calls c m (r ∷ rs) =
 -- the run of a replay leaves what the replay leaves
 pub replay-run : (c : Controller) (m : Memory) (t room : List ℕ)
     → let r = replayRun m t room in
-    (afterRun c r ≡ replay c m t room .controller) × (leftBy c r ≡ replay c m t room .memory)
+    (afterRun c r ≡ replay c m t room .controller) × (memoryAfter c r ≡ replay c m t room .memory)
 unfolding replay replayCalls settle
 replay-run c m t room =
     let b = ltb (length room) (16 * begun (length t)) in

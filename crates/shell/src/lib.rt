@@ -109,7 +109,8 @@ impl Shell {
         out: &mut [u8],
         to: usize,
     ) -> Done
-        requires { ⌜ Ready self × (at ≤ length (now line)) × (length (now line) ≤ lineBytes) × (to ≤ lineBytes) × (answerBytes ≤ length (now out)) ⌝ }
+        requires { ⌜ Ready self × (at ≤ length (now line)) × (length (now line) ≤ lineBytes) × (to ≤ lineBytes)
+            × (answerBytes ≤ length (now out)) ⌝ }
         ensures { λ r. ⌜ Ready (r .shell) × (r .text .end < answerBytes) ⌝ }
     {
         let text = replay(&mut self.controller.words, memory, line, at, room, out, to);
@@ -209,7 +210,8 @@ fn act(
     out: &mut [u8],
     to: usize,
 ) -> Done
-    requires { ⌜ Ready shell × (at ≤ length (now line)) × (length (now line) ≤ lineBytes) × (to ≤ lineBytes) × (answerBytes ≤ length (now out)) ⌝ }
+    requires { ⌜ Ready shell × (at ≤ length (now line)) × (length (now line) ≤ lineBytes) × (to ≤ lineBytes)
+        × (answerBytes ≤ length (now out)) ⌝ }
     ensures { λ r. ⌜ Ready (r .shell) × (r .text .end < answerBytes) ⌝ }
 {
     let numbers = a.numbers;

@@ -1,4 +1,5 @@
--- `replay_command::run` keeps the controller one that calls lead to, and stays in its room: no answer record lies past its own. Assumes nothing.
+-- `replay_command::run` keeps the controller one that calls lead to, and stays in its room: no answer record lies past its own. Assumes
+-- nothing.
 use borrow.Author.Needs.{needs}
 use Prim.Native.Nat.{_*_, _≤_}
 use lib.ListN.{length}

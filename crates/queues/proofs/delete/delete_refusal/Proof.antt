@@ -1,6 +1,5 @@
 -- `delete_refusal` meets its contract: at each return the tests that led there say which row of the table is the first. Assumes
 -- nothing.
-use borrow.Author.Needs.{needs}
 use borrow.Author.Tests.{lt-ltb, le-ltb, eq-eqb, ne-eqb}
 use Rattle.queues.proofs.delete.delete_refusal.Statement.{statement}
 use Rattle.queues.proofs.delete.delete_refusal.Tie as tie
