@@ -21,7 +21,7 @@ use Rattle.arbiter.specs.declared.Chosen.{Chosen}
 use Rattle.arbiter.specs.declared.Chosen.the-variants.{Queue, Nobody}
 use Rattle.arbiter.specs.Word.{burstOf, lowWeight, mediumWeight, highWeight}
 use Rattle.arbiter.specs.Turns.{turn}
-use Rattle.arbiter.specs.Arbiter.{withGroup, withLevels, refilled, ready, levelFull, charged, levelTurn, toppedUp, ofTurn, ofLevel}
+use Rattle.arbiter.specs.Arbiter.{withGroup, withLevels, refilled, ready, levelFull, charged, levelTurn, refilledIfDue, ofTurn, ofLevel}
 use Rattle.arbiter.specs.Arbiter.{orElse, byGroup, byLevel, byWeight, choice}
 use Rattle.arbiter.proofs.Levels.{ready-parts}
 use Rattle.arbiter.proofs.Credits.{Due, refill-exact}
@@ -139,10 +139,10 @@ module _ (a : Arbiter) (c : Candidates) where
     pub medium-credit : Filled a c (a .medium) (mediumWeight (a .word)) (f .medium .credit)
     pub low-credit : Filled a c (a .low) (lowWeight (a .word)) (f .low .credit)
 
-  refill-leaves : Refilled (toppedUp a c)
+  refill-leaves : Refilled (refilledIfDue a c)
   refill-leaves =
       ⊎-elim
-      (λ (y : Due a c × (toppedUp a c ≡ refilled a)). rw (y .1) (record {
+      (λ (y : Due a c × (refilledIfDue a c ≡ refilled a)). rw (y .1) (record {
         weighted = refl;
         word = refl;
         group = refl;
@@ -153,7 +153,7 @@ module _ (a : Arbiter) (c : Candidates) where
         medium-credit = inl (y .0, refl);
         low-credit = inl (y .0, refl);
       }))
-      (λ (n : (Due a c → ⊥) × (toppedUp a c ≡ a)). rw (n .1) (record {
+      (λ (n : (Due a c → ⊥) × (refilledIfDue a c ≡ a)). rw (n .1) (record {
         weighted = refl;
         word = refl;
         group = refl;
@@ -240,7 +240,7 @@ module _ (a : Arbiter) (c : Candidates) where
   unfolding byWeight
   weight-changes w =
       pick-cases Says (isSet (c .all) 0) (Queue 0 a) _ (admin-changes w)
-      (λ n. says-or _ _ (group-changes (isSet (c .urgent)) (λ i b. urgent w n)) (level-changes w n (toppedUp a c) refill-leaves))
+      (λ n. says-or _ _ (group-changes (isSet (c .urgent)) (λ i b. urgent w n)) (level-changes w n (refilledIfDue a c) refill-leaves))
 
   says-choice : Says (choice a c)
   unfolding choice
