@@ -48,10 +48,10 @@ use borrow.Rule.Array.Init.{part-room}
 use Rattle.libc.specs.declared.types.timespec.{timespec}
 use Rattle.libc.proofs.types.timespec as T
 use Rattle.libc.proofs.types.timespec.Laws as T′
-use Rattle.libc.proofs.nanosleep as sleep
-use Rattle.libc.proofs.nanosleep.Symbol as sleep-def
+use Rattle.libc.proofs.nanosleep as nanosleep
+use Rattle.libc.proofs.nanosleep.Symbol as nanosleep-def
 use Rattle.libc.proofs.nanosleep.Symbol.{name as #libc·nanosleep}
-use Rattle.libc.proofs.nanosleep.Met as sleep-thm
+use Rattle.libc.proofs.nanosleep.Met as nanosleep-thm
 use Rattle.stream.proofs.sleep.Key.{name as #stream·sleep}
 use Rattle.stream.proofs.sleep as sleep
 use Rattle.stream.proofs.sleep.Statement as stated
@@ -80,8 +80,8 @@ module _ {M : Type 1} {𝓤 : URA M} {H : Heap 𝓤} {A : Atoms 𝓤} {K : Type 
 
 module _ {M : Type 1} (𝓤 : URA M) (H : Heap 𝓤) (A : Atoms 𝓤) (mem : Memory → SProp 𝓤) (run : Routine → Fun 𝓤) where
   -- the contract that the proof cites
-  abbrev Sleep : Contract 𝓤
-  Sleep = tripleOf 𝓤 H A sleep.signature (sleep.spec 𝓤 H A mem run)
+  abbrev Nanosleep : Contract 𝓤
+  Nanosleep = tripleOf 𝓤 H A nanosleep.signature (nanosleep.spec 𝓤 H A mem run)
 
   abbrev Post : Val → SProp 𝓤
   Post = walkOf 𝓤 H A sleep.ended tt (sleep.clauses 𝓤 H A mem run) .post ((tt, tt, tt, tt, tt), tt)
@@ -112,8 +112,8 @@ left-back β l δ = flent (β ∷ []) (Body (memory R) l 0 δ)
 module _ {M : Type 1} (𝓤 : URA M) (H : Heap 𝓤) (A : Atoms 𝓤) (W : Given 𝓤 H A) (mem : Memory → SProp 𝓤) (run : Routine → Fun 𝓤)
     (α β l₁ l₂ : ℕ) (γ δ : GName) where
   -- what `nanosleep`'s triple binds outside, that the caller has what it asks, and what is known once it has returned r
-  abbrev to-sleep : Sleep 𝓤 H A mem run .Ghost
-  to-sleep = (
+  abbrev to-nanosleep : Nanosleep 𝓤 H A mem run .Ghost
+  to-nanosleep = (
     (
       (α ∷ [], (β ∷ [], tt)),
       (fullShare, (fullShare, tt)),
@@ -127,14 +127,14 @@ module _ {M : Type 1} (𝓤 : URA M) (H : Heap 𝓤) (A : Atoms 𝓤) (W : Given
   goes :
       ent 𝓤
       (sep 𝓤 (sem 𝓤 H A (Shared α l₁ γ)) (sep 𝓤 (sem 𝓤 H A (Lent β l₂ δ)) (sep 𝓤 (sem 𝓤 H A (token α)) (sem 𝓤 H A (token β)))))
-      (Sleep 𝓤 H A mem run .pre to-sleep)
+      (Nanosleep 𝓤 H A mem run .pre to-nanosleep)
   goes =
       qed W (‵ (Shared α l₁ γ) ∷ ‵ (Lent β l₂ δ) ∷ ‵ (token α) ∷ ‵ (token β) ∷ []) ∵
       nothing ! $ move ! (2 ∷ 0 ∷ []) $ fjoin ! $ move ! (1 ∷ 0 ∷ []) $ fjoin ! $
       nothing ! $ move ! (3 ∷ 0 ∷ []) $ join ! $ move ! (2 ∷ 0 ∷ []) $ join ! $ join ! $ frame ! $ done !
 
   abbrev said : ℤ → SProp 𝓤
-  said r = ensured 𝓤 H A sleep.ended (sleep.clauses 𝓤 H A mem run) (α ∷ [], (β ∷ [], tt)) (at-asked l₁ γ, (at-left l₂ δ, tt)) tt r
+  said r = ensured 𝓤 H A nanosleep.ended (nanosleep.clauses 𝓤 H A mem run) (α ∷ [], (β ∷ [], tt)) (at-asked l₁ γ, (at-left l₂ δ, tt)) tt r
 
 module _ {M : Type 1} (𝓤 : URA M) (H : Heap 𝓤) (A : Atoms 𝓤) (W : Given 𝓤 H A) (mem : Memory → SProp 𝓤) (run : Routine → Fun 𝓤) where
   exits : ent 𝓤 (emp 𝓤) (Post 𝓤 H A mem run vunit)
@@ -143,7 +143,7 @@ module _ {M : Type 1} (𝓤 : URA M) (H : Heap 𝓤) (A : Atoms 𝓤) (W : Given
       feqI ! (List Val) (vunit ∷ []) (vunit ∷ []) refl $ nothing ! $ join ! $ nothing ! $ join ! $ frame ! $ nothing ! $ done !
 
   module _ (C : Calls 𝓤 H) (Λ : Loops 𝓤 H) (fm : FmC 𝓤 H (W .laws) C)
-      (known : Triple 𝓤 (C #libc·nanosleep) (Sleep 𝓤 H A mem run)) where
+      (known : Triple 𝓤 (C #libc·nanosleep) (Nanosleep 𝓤 H A mem run)) where
     walk : ent 𝓤 (onEntry 𝓤 H A sleep.signature tt tt tt tt) (WpFn 𝓤 H C Λ code.function [] (Post 𝓤 H A mem run))
     walk =
         qed W (‵ ftrue ∷ ‵ ftrue ∷ []) ∵ keep ! [] $ enter ! C Λ code.function [] (Post 𝓤 H A mem run) $
@@ -169,8 +169,8 @@ module _ {M : Type 1} (𝓤 : URA M) (H : Heap 𝓤) (A : Atoms 𝓤) (W : Given
         (lends-ref 𝓤 H A W R (named 1) (β ∷ []) left l₂ 0) $ await ! tt $ pick ! (λ δ. split ! $
         -- [the `&mut`; its lender's part; the token; the `&`; its lender's part; the token; _5; …; _4; …; _3; …; …; …; _0; …]
         move ! (5 ∷ 2 ∷ []) $ join ! $ move ! (3 ∷ 1 ∷ 0 ∷ []) $
-        use3 W (raw (Sleep 𝓤 H A mem run .pre (to-sleep 𝓤 H A W mem run α β l₁ l₂ γ δ))) (goes 𝓤 H A W mem run α β l₁ l₂ γ δ) $
-        calls-at ! fm (Sleep 𝓤 H A mem run) known (to-sleep 𝓤 H A W mem run α β l₁ l₂ γ δ)
+        use3 W (raw (Nanosleep 𝓤 H A mem run .pre (to-nanosleep 𝓤 H A W mem run α β l₁ l₂ γ δ))) (goes 𝓤 H A W mem run α β l₁ l₂ γ δ) $
+        calls-at ! fm (Nanosleep 𝓤 H A mem run) known (to-nanosleep 𝓤 H A W mem run α β l₁ l₂ γ δ)
         (and-then ! (load ! (from ! (stop !)) (look ! 5 refl)) (and-then ! (load ! (from ! (stop !)) (look ! 3 refl)) (no-more !))) (λ v.
         use1 W (later (some (λ (r : ℤ). ((‵ (token α) ⊛ (‵ (token β) ⊛ ‵ ftrue)) ⊛ ‵ (i32 .own r (v ∷ [])))
         ⊛ raw (said 𝓤 H A W mem run α β l₁ l₂ γ δ r)))) (id⊢ 𝓤 _) $ await ! tt $ pick ! (λ r.
@@ -189,13 +189,13 @@ module _ {M : Type 1} (𝓤 : URA M) (H : Heap 𝓤) (A : Atoms 𝓤) (W : Given
         move ! (6 ∷ 7 ∷ []) $ free1 ! $ move ! (4 ∷ 5 ∷ []) $ free1 ! $ move ! (2 ∷ 3 ∷ []) $ free1 ! $ free0 ! $
         keep ! [] $ by ! exits))))))))))))))
 
-  sleep-walks : (C : Calls 𝓤 H) (Λ : Loops 𝓤 H) → FmC 𝓤 H (W .laws) C → Triple 𝓤 (C #libc·nanosleep) (Sleep 𝓤 H A mem run)
+  sleep-walks : (C : Calls 𝓤 H) (Λ : Loops 𝓤 H) → FmC 𝓤 H (W .laws) C → Triple 𝓤 (C #libc·nanosleep) (Nanosleep 𝓤 H A mem run)
       → Walks 𝓤 H A sleep.ended tt (WpFn 𝓤 H C Λ code.function) (sleep.clauses 𝓤 H A mem run)
   sleep-walks C Λ fm known =
       walked 𝓤 H A sleep.ended tt (sleep.clauses 𝓤 H A mem run) (WpFn 𝓤 H C Λ code.function) (λ κs. tt) (λ κs. tt)
       (λ κs qs bounds a g are. via 𝓤 _ (fst∗ 𝓤 _ (emp 𝓤)) (walk C Λ fm known))
 
-  sleep-meets : (𝓣 : Tables 𝓤 H) → Triple 𝓤 (𝓣 .C #libc·nanosleep) (Sleep 𝓤 H A mem run)
+  sleep-meets : (𝓣 : Tables 𝓤 H) → Triple 𝓤 (𝓣 .C #libc·nanosleep) (Nanosleep 𝓤 H A mem run)
       → Meets 𝓤 H A sleep.signature (WpFn 𝓤 H (𝓣 .C) (𝓣 .Λ) code.function) (sleep.spec 𝓤 H A mem run)
   sleep-meets 𝓣 known =
       walk-meets 𝓤 H A sleep.ended tt W tt (sleep.clauses 𝓤 H A mem run) (WpFn 𝓤 H (𝓣 .C) (𝓣 .Λ) code.function)
@@ -207,5 +207,5 @@ sleep-spec 𝓤 H 𝓜 𝓖 𝓡 =
     entered 𝓤 H (tripleOf 𝓤 H (𝓖 .A) sleep.signature (sleep.spec 𝓤 H (𝓖 .A) (𝓜 .mem) (𝓡 .run)))
     (tables 𝓤 H 𝓜 𝓡 code.env .C) (tables 𝓤 H 𝓜 𝓡 code.env .Λ) #stream·sleep code.function (code.unfolded 𝓤 H 𝓜 𝓡)
     (sleep-meets 𝓤 H (𝓖 .A) (givenOf 𝓤 H 𝓜 𝓖) (𝓜 .mem) (𝓡 .run) (tablesOf 𝓤 H 𝓜 (tables 𝓤 H 𝓜 𝓡 code.env))
-    (cited 𝓤 H (Sleep 𝓤 H (𝓖 .A) (𝓜 .mem) (𝓡 .run)) 𝓜 𝓡 code.env #libc·nanosleep sleep-def.routine code.calls-libc·nanosleep
-    (sleep-thm.met 𝓤 H 𝓜 𝓖 𝓡)))
+    (cited 𝓤 H (Nanosleep 𝓤 H (𝓖 .A) (𝓜 .mem) (𝓡 .run)) 𝓜 𝓡 code.env #libc·nanosleep nanosleep-def.routine code.calls-libc·nanosleep
+    (nanosleep-thm.met 𝓤 H 𝓜 𝓖 𝓡)))
