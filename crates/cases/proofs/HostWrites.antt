@@ -72,13 +72,14 @@ unfoldable pub seen : Memory
 seen = put (foldl (λ n s. s .outcome .memory) memory (allSteps c runs)) 4355 (9 ∷ [])
 
 -- The premises: the ring has not been created at first; it is created on bytes without a phase tag; from then on the host leaves it
--- alone. What is answered, the head writes, what the ring holds after it, and what the reader finds: the second half alone, aborted since
+-- alone. What is answered, the ring's size, the head writes, what the ring holds after it, and what the reader finds: the second half alone, aborted since
 -- its first half failed.
 pub host-writes : (allNarrow calls ≡ true)
     × (allClear 1 (allSteps c runs) ≡ true)
     × (allKept 1 c memory runs seen ≡ true)
     × There 1 (afterRuns c runs)
     × (map (λ s. s .outcome .answer) (allSteps c runs) ≡ called)
+    × (cqAt (afterRuns c runs) 1 .ring .size ≡ 2)
     × (heads 1 [] (allSteps c runs) ≡ 1 ∷ [])
     × (ringOf (afterRuns c runs) 1 seen ≡ completionBytes (completion 77 2 1 10 5) 1 ++ completionBytes (completion 78 2 1 11 9) 1)
     × (reader (ringOf (afterRuns c runs) 1 seen) (cqAt (afterRuns c runs) 1 .ring .size) (heads 1 [] (allSteps c runs))
@@ -92,7 +93,7 @@ unfolding memory calls seen settle isSet first count maskOf someBelow takenOne t
     finishing.finish arbiter.choice arbiter.byGroup arbiter.byWeight arbiter.byLevel arbiter.refilledIfDue arbiter.someWaits
     arbiter.someReady arbiter.levelTurn arbiter.ready turns.turn turns.nextAfter word.burstOf reader found readCount readSlots slotIn
     phaseIn completionAt phaseTag
-host-writes = (refl, refl, refl, refl, refl, refl, refl, refl)
+host-writes = (refl, refl, refl, refl, refl, refl, refl, refl, refl)
 
 pub bytes : Bytes memory
 unfolding memory
@@ -103,4 +104,4 @@ example = let h = host-writes in history true 0 [] memory calls 1 seen tt refl b
 
 -- so that alone, by demand 3, was posted and is not yet released
 pub example-unreleased : unreleased example ≡ completion 78 2 1 11 9 ∷ []
-example-unreleased = sym (demand3 example) ∙ host-writes .7
+example-unreleased = sym (demand3 example) ∙ host-writes .8

@@ -4,3 +4,4 @@ pub mod HostWrites
 pub mod TwoLifetimes
 pub mod LastNumber
 pub mod Replays
+pub mod TwoQueues

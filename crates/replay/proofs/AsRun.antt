@@ -1,7 +1,7 @@
 -- A replay is the run of the calls that it makes; in demand 3 such a run asks for nothing but that its memory is one of bytes and that
 -- nobody else has written into the ring before it. Assumes nothing.
 use Prim.Native.Nat.{ℕ, _*_, _<_, _^_}
-use mathlib.Core.Bool.{true, false}
+use mathlib.Core.Bool.{Bool, true, false}
 use mathlib.Core.List.{List, [], _∷_, _++_}
 use mathlib.Core.Logic.{⊎-elim}
 use mathlib.Core.Path.{_≡_, refl, sym, _∙_}
@@ -10,20 +10,24 @@ use lib.ListN.{length}
 use Rattle.rules.specs.Rules.{firstMatch, settle}
 use Rattle.rules.proofs.Tests.{bool-cases, clash}
 use Rattle.rules.proofs.Cases.{settle-cases}
-use Rattle.le.specs.Memory.{Memory}
+use Rattle.le.specs.Memory.{Memory, part, Bytes}
+use Rattle.ring.specs.Reader.{phaseIn}
 use Rattle.controller.specs.Controller.{Controller}
-use Rattle.controller.specs.State.{noCq, cqAt}
+use Rattle.controller.specs.State.{noCq, cqAt, freshController}
+use Rattle.controller.specs.Create.{createCqRefusal}
 use Rattle.controller.specs.Answers.{Outcome}
 use Rattle.controller.specs.Starting.{oneTaken, pairTaken}
 use Rattle.controller.specs.Finishing.{cqOf, finishedController, posted}
 use Rattle.controller.specs.Calls.{Call, createCq, createSq, deleteCq, deleteSq, tailWrite, headWrite, start, finish, resultOf}
 use Rattle.controller.specs.Calls.{perform, Reachable, after}
-use Rattle.controller.specs.Steps.{Step, steps, given, final, leaves, runSteps, afterRun, memoryAfter}
-use Rattle.controller.specs.Demand.{ClearTags, Narrow}
+use Rattle.controller.specs.Steps.{Step, steps, given, final, leaves, Run, runSteps, afterRun, memoryAfter, afterRuns}
+use Rattle.controller.specs.Demand.{ClearTags, Narrow, Typed, History}
 use Rattle.controller.proofs.Lists.{set-same}
 use Rattle.controller.proofs.Made.{takes-one, takes-pair, finishes, Made, refuses, marks, creates-cq, creates-sq, moves-tail, moves-head}
 use Rattle.controller.proofs.Made.{deletes-cq, deletes-sq, commands, made}
 use Rattle.controller.proofs.Validity.{valid}
+use Rattle.controller.proofs.Undisturbed.{spares}
+use Rattle.controller.proofs.Undisturbed as tested
 use Rattle.trace.specs.declared.Record.{Record}
 use Rattle.trace.specs.declared.Record.the-variants as R
 use Rattle.trace.specs.Record.{Asked, call, none, asked, recordIn, askedCalls}
@@ -137,3 +141,24 @@ no-tags q (x ∷ xs) {c} m r h later k =
 pub replay-clear : (q : ℕ) {c : Controller} (m : Memory) (t room : List ℕ) → Reachable c → (later : List Step) → ClearTags q later
     → ClearTags q (runSteps c (replayRun m t room) ++ later)
 replay-clear q m t room r = no-tags q (replayCalls t room) m r (replay-traced t room)
+
+-- ---- a completion queue that is created on a clear ring after any runs, and then any trace is replayed: the premises hold
+
+all-tested : (q : ℕ) (xs : List Call) → AllTraced xs → (tested.narrow xs ≡ true) × (spares q xs ≡ true)
+all-tested q [] h = (refl, refl)
+all-tested q (createCq id size base ∷ xs) h = absurd (h .0)
+all-tested q (createSq id size base cq class ∷ xs) h = absurd (h .0)
+all-tested q (deleteCq id ∷ xs) h = absurd (h .0)
+all-tested q (deleteSq id ∷ xs) h = absurd (h .0)
+all-tested q (tailWrite id v ∷ xs) h = all-tested q xs (h .1)
+all-tested q (headWrite id v ∷ xs) h = all-tested q xs (h .1)
+all-tested q (start ∷ xs) h = all-tested q xs (h .1)
+all-tested q (finish tag status result ∷ xs) h = rw (h .0) (all-tested q xs (h .1))
+
+module _ (weighted : Bool) (word : ℕ) (earlier : List Run) (typed : Typed earlier) (q size base : ℕ) (m : Memory) (bytes : Bytes m)
+    (creates : createCqRefusal (afterRuns (freshController weighted word) earlier) (length m) q size base ≡ 0)
+    (clear : (i : ℕ) → i < size → phaseIn (part m base (16 * size)) i ≡ 0) (t room : List ℕ) where
+  pub undisturbed-replay : History
+  undisturbed-replay =
+      let h = all-tested q (replayCalls t room) (replay-traced t room) in
+      tested.undisturbed weighted word earlier typed q size base m bytes creates clear (replayCalls t room) (h .0) (h .1)
