@@ -259,23 +259,23 @@ module _ {c : Controller} (many : length (c .commands) ≡ 64) (t : ℕ) where
       }))
       (same-or-not t tag)
 
-  came : {m : Memory} {call : Call} {o : Outcome} → outstanding (o .controller .free) t ≡ true → Commands c m call o
+  was-or-taken : {m : Memory} {call : Call} {o : Outcome} → outstanding (o .controller .free) t ≡ true → Commands c m call o
       → (outstanding (c .free) t ≡ true) ⊎ Takes call o t
   unfolding oneTaken pairTaken finishedController
-  came p (refused-leaves call n xs) = inl p
-  came p (done-leaves call xs ys) = inl p
-  came p (changes (takes-one id a x left s e w)) =
+  was-or-taken p (refused-leaves call n xs) = inl p
+  was-or-taken p (done-leaves call xs ys) = inl p
+  was-or-taken p (changes (takes-one id a x left s e w)) =
       ⊎-elim (λ (q : t ≡ x). inr (record { taken = _; is = refl; answer = refl; tag = inl q }))
       (λ (d : t ≡ x → ⊥). inl (sym (taken-other w t d) ∙ p)) (same-or-not t x)
-  came p (changes (takes-pair id a x y left s e w)) =
+  was-or-taken p (changes (takes-pair id a x y left s e w)) =
       ⊎-elim (λ (q : t ≡ y). inr (record { taken = _; is = refl; answer = refl; tag = inr (refl, q) }))
       (λ (b : t ≡ y → ⊥).
       ⊎-elim (λ (q : t ≡ x). inr (record { taken = _; is = refl; answer = refl; tag = inl q }))
       (λ (d : t ≡ x → ⊥). inl (sym (taken-other (w .second) t b ∙ taken-other (w .first) t d) ∙ p)) (same-or-not t x))
       (same-or-not t y)
-  came p (changes (finishes tag status result r)) = inl (back-was (c .free) tag (r .out) t p)
+  was-or-taken p (changes (finishes tag status result r)) = inl (back-was (c .free) tag (r .out) t p)
 
--- ---- every controller that came from a fresh one by calls
+-- ---- every controller that was-or-taken from a fresh one by calls
 
 module _ {c : Controller} (r : Reachable c) (m : Memory) (call : Call) (t : ℕ) where
   -- A command that is outstanding before a call is so after it, with the same queue, CID, number and links, unless the call is its own
@@ -287,7 +287,7 @@ module _ {c : Controller} (r : Reachable c) (m : Memory) (call : Call) (t : ℕ)
   -- And a command that is outstanding after a call was so before, unless the call is the start that took it.
   pub was-out : outstanding (perform c m call .controller .free) t ≡ true
       → (outstanding (c .free) t ≡ true) ⊎ Takes call (perform c m call) t
-  was-out p = came (valid r .commands-64) t p (of-commands (made c m (valid r .free-64) call))
+  was-out p = was-or-taken (valid r .commands-64) t p (of-commands (made c m (valid r .free-64) call))
 
 -- ---- what a start takes
 

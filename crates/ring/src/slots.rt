@@ -5,9 +5,9 @@ ghost use Prim.Native.Nat.{_≤_, _<_};
 ghost use Rattle.ring.specs.Slots.{wrongSize, next, distance, phaseAfter};
 
 // How many entries a ring has.
-pub const LEAST_SIZE: u64 = 2;
+const LEAST_SIZE: u64 = 2;
 
-pub const MOST_SIZE: u64 = 1024;
+const MOST_SIZE: u64 = 1024;
 
 pub fn wrong_size(size: u64) -> bool
     ensures { λ r. ⌜ r ≡ wrongSize size ⌝ }
