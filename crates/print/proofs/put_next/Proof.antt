@@ -1,0 +1,11 @@
+-- `put_next` meets its contract. Assumes nothing.
+use borrow.Author.Needs.{needs}
+use Rattle.print.proofs.Puts.{put-then}
+use Rattle.print.proofs.put_next.Statement.{statement}
+use Rattle.print.proofs.put_next.Tie as tie
+
+returns : tie.Need-returns
+returns c = put-then (c .before .before .before .before .before .before .put-one .ensures) (c .before .before .put-number .ensures)
+
+pub put-next-spec : {M : Type 1} → statement M
+put-next-spec = tie.close (tie.spec (λ c κs. search needs) (λ c κs. search needs) (λ c. search needs) returns)
