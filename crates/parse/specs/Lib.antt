@@ -1,0 +1,4 @@
+pub mod Line
+pub mod Numeral
+pub mod Values
+pub mod Arguments
