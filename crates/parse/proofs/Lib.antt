@@ -4,3 +4,4 @@ pub mod Numerals
 pub mod Storing
 pub mod Reading
 pub mod Givens
+pub mod Counts

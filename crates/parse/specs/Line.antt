@@ -35,6 +35,10 @@ unfoldable pub lead : (ℕ → Bool) → List ℕ → ℕ
 lead p [] = 0
 lead p (b ∷ bs) = pick (p b) (suc (lead p bs)) 0
 
+-- how many bytes stand before the first byte b; all where there is none
+abbrev pub before : ℕ → List ℕ → ℕ
+before b l = lead (λ x. not (eqb x b)) l
+
 -- where the next word from a place on stands: behind the blanks, up to a byte of no word; `start` is `end` where no word is left
 pub record NextWord (line : List ℕ) (place start end : ℕ) : Type 0 where
   pub starts : start ≡ place + lead isBlank (drop place line)

@@ -2,7 +2,7 @@
 ghost use mathlib.Core.Path.{_≡_};
 ghost use Prim.Native.Nat.{_+_, _≤_};
 ghost use lib.ListN.{length, drop};
-ghost use Rattle.parse.specs.Line.{isBlank, inWord, lead, NextWord, withoutCr, same};
+ghost use Rattle.parse.specs.Line.{isBlank, inWord, lead, before, NextWord, withoutCr, same};
 
 // The longest line, without its LF.
 pub const MOST_BYTES: usize = 4096;
@@ -63,6 +63,21 @@ pub fn next_word(line: &[u8], at: usize) -> Word
         start: start,
         end: past_word(line, start),
     }
+}
+
+// The place of the next byte `b` of a text, from `at` on; the text's end where there is none.
+pub fn find(text: &[u8], at: usize, b: u8) -> usize
+    requires { ⌜ at ≤ length (now text) ⌝ }
+    ensures { λ r. ⌜ (r ≡ at + before b (drop at (now (text .entry)))) × (r ≤ length (now (text .entry))) ⌝ }
+{
+    let mut i = at;
+    while i < text.len() {
+        if text[i] == b {
+            return i;
+        }
+        i += 1;
+    }
+    i
 }
 
 // How many bytes of a line that ended in LF count: not the one CR that may stand before it.
