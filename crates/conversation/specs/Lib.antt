@@ -1,1 +1,3 @@
-pub mod Kept
+pub mod Sizes
+pub mod Answers
+pub mod Steps

@@ -1,1 +1,5 @@
-pub mod Prefix
+pub mod Gathers
+pub mod Stepped
+pub mod Cuts
+pub mod Handed
+pub mod Files

@@ -1,1 +1,4 @@
+pub mod Sizes
 pub mod Inside
+pub mod Texts
+pub mod Steps

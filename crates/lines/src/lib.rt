@@ -1,20 +1,33 @@
-// The lines of a file, which is read in chunks.
+// The lines of a file that is read in chunks. Nothing is read here: a chunk is lent, and how many bytes a read gave is told.
+ghost use mathlib.Core.List.{_++_};
 ghost use mathlib.Core.Path.{_≡_};
-ghost use Prim.Native.Nat.{_<_, _≤_};
-ghost use lib.ListN.{length};
+ghost use Prim.Native.Nat.{_+_, _≤_};
+ghost use lib.ListN.{length, take, drop};
+ghost use Rattle.print.specs.Put.{Put};
+ghost use Rattle.parse.specs.Line.{before};
+ghost use Rattle.lines.specs.Sizes.{chunkBytes, heldBytes};
 ghost use Rattle.lines.specs.Inside.{Inside};
-ghost use Rattle.text.specs.Sizes.{chunkBytes, heldBytes};
-use text::line::without_cr;
-use text::sizes::HELD_BYTES;
+ghost use Rattle.lines.specs.Texts.{kept, toLf};
+ghost use Rattle.lines.specs.Steps.{noLine, withLine, withoutLine, filledBy, Scanned};
+use parse::line::MOST_BYTES;
+use parse::line::find;
+use parse::line::without_cr;
+use print::put;
 
-// How many lines have ended; how many bytes the chunk has, and where it is read on; how many bytes of the next line are held;
-// and whether more may come.
+// What is read at once.
+pub const CHUNK_BYTES: usize = 65536;
+
+// A line as it is held: one byte more than the longest shows that it is too long.
+pub const HELD_BYTES: usize = MOST_BYTES + 1;
+
+// How many lines have ended; how many bytes the chunk has, and how many of them are read; how many bytes of the next line are held; and
+// whether more may come.
 pub struct Lines {
     pub ended: u64,
     pub count: usize,
-    pub at: usize,
+    pub read: usize,
     pub held: usize,
-    pub open: bool,
+    pub more: bool,
 }
 
 // What a step finds: a line that has ended; nothing yet; the end of the file; or an error, by its number.
@@ -32,65 +45,21 @@ pub struct Step {
     pub length: usize,
 }
 
-// The next part of a line: where it ends in the chunk, how many bytes of the line are held, and whether its LF was there.
-struct Part {
-    end: usize,
-    held: usize,
-    ended: bool,
-}
-
 // No line is read yet.
 pub fn first() -> Lines
-    ensures { λ r. ⌜ Inside r ⌝ }
+    ensures { λ r. ⌜ (r ≡ noLine) × Inside r ⌝ }
 {
     Lines {
         ended: 0,
         count: 0,
-        at: 0,
+        read: 0,
         held: 0,
-        open: true,
-    }
-}
-
-fn keep(line: &mut [u8], held: usize, b: u8) -> usize
-    requires { ⌜ (held ≤ heldBytes) × (heldBytes ≤ length (now line)) ⌝ }
-    ensures { λ r. ⌜ r ≤ heldBytes ⌝ }
-{
-    if held < HELD_BYTES {
-        line[held] = b;
-        return held + 1;
-    }
-    held
-}
-
-fn gather(chunk: &[u8], at: usize, line: &mut [u8], held: usize) -> Part
-    requires { ⌜ (at < length (now chunk)) × (held ≤ heldBytes) × (heldBytes ≤ length (now line)) ⌝ }
-    ensures { λ r. ⌜ (at < r .end) × (r .end ≤ length (now (chunk .entry))) × (r .held ≤ heldBytes) ⌝ }
-{
-    let mut i = at;
-    let mut n = held;
-    while i < chunk.len() {
-        let b = chunk[i];
-        i += 1;
-        if b == b'\n' {
-            return Part {
-                end: i,
-                held: n,
-                ended: true,
-            };
-        }
-        n = keep(line, n, b);
-    }
-    Part {
-        end: i,
-        held: n,
-        ended: false,
+        more: true,
     }
 }
 
 fn without_line(lines: Lines, found: Found) -> Step
-    requires { ⌜ Inside lines ⌝ }
-    ensures { λ r. ⌜ Inside (r .lines) × (r .length ≤ heldBytes) ⌝ }
+    ensures { λ r. ⌜ r ≡ withoutLine lines found ⌝ }
 {
     Step {
         lines: lines,
@@ -100,8 +69,7 @@ fn without_line(lines: Lines, found: Found) -> Step
 }
 
 fn with_line(mut lines: Lines, length: usize) -> Step
-    requires { ⌜ Inside lines × (length ≤ heldBytes) ⌝ }
-    ensures { λ r. ⌜ Inside (r .lines) × (r .length ≤ heldBytes) ⌝ }
+    ensures { λ r. ⌜ r ≡ withLine lines length ⌝ }
 {
     lines.ended = std::num::wrapping_add_u64(lines.ended, 1);
     lines.held = 0;
@@ -112,53 +80,71 @@ fn with_line(mut lines: Lines, length: usize) -> Step
     }
 }
 
-// Reads a chunk on to the end of a line or to its own end.
-fn scan(mut lines: Lines, chunk: &[u8], line: &mut [u8]) -> Step
-    requires { ⌜ Inside lines × (lines .at < lines .count) × (lines .count ≡ length (now chunk)) × (heldBytes ≤ length (now line)) ⌝ }
-    ensures { λ r. ⌜ Inside (r .lines) × (r .length ≤ heldBytes) ⌝ }
-{
-    let part = gather(chunk, lines.at, line, lines.held);
-    let held = part.held;
-    lines.at = part.end;
-    lines.held = held;
-    if part.ended {
-        return with_line(lines, without_cr(line, held));
-    }
-    without_line(lines, Found::Nothing)
+// Where the line that is read ends in the chunk, at its LF or at the chunk's end, and how many bytes of it are held.
+struct Part {
+    end: usize,
+    held: usize,
 }
 
-// Reads the next chunk. At the end of the file a last line without LF counts.
-fn refill(fd: i32, mut lines: Lines, chunk: &mut [u8]) -> Step
-    requires { ⌜ Inside lines × (length (now chunk) ≡ chunkBytes) ⌝ }
-    ensures { λ r. ⌜ Inside (r .lines) × (r .length ≤ heldBytes) ⌝ }
+// Puts the bytes up to the next LF behind those that are held of a line, as many as are kept.
+fn gather(chunk: &[u8], read: usize, line: &mut [u8], held: usize) -> Part
+    requires { ⌜ (read ≤ length (now chunk)) × (held ≤ heldBytes) × (heldBytes ≤ length (now line)) ⌝ }
+    ensures { λ r. ⌜ (r .end ≡ read + before 10 (drop read (now (chunk .entry)))) × (r .end ≤ length (now (chunk .entry)))
+        × Put (now (line .entry)) 0 (kept (take held (now (line .entry)) ++ toLf (drop read (now (chunk .entry))))) (now (line .exit))
+        (r .held) ⌝ }
 {
-    let input = stream::read(fd, chunk);
-    lines.at = 0;
-    lines.count = input.count;
-    if input.count > 0 {
+    let end = find(chunk, read, b'\n');
+    let room = HELD_BYTES - held;
+    if room < end - read {
+        let stop = read + room;
+        return Part {
+            end: end,
+            held: put(line, held, &chunk[read..stop]),
+        };
+    }
+    Part {
+        end: end,
+        held: put(line, held, &chunk[read..end]),
+    }
+}
+
+// One step in a chunk: to the end of a line, which then stands at the start of `line`, or to the end of the chunk.
+pub fn scan(mut lines: Lines, chunk: &[u8], line: &mut [u8]) -> Step
+    requires { ⌜ Inside lines × (length (now chunk) ≡ chunkBytes) × (length (now line) ≡ heldBytes) ⌝ }
+    ensures { λ r. ⌜ Scanned lines (now (chunk .entry)) (now (line .entry)) (now (line .exit)) r ⌝ }
+{
+    let count = lines.count;
+    let part = gather(&chunk[..count], lines.read, line, lines.held);
+    let end = part.end;
+    let held = part.held;
+    if end < count {
+        lines.read = end + 1;
+        return with_line(lines, without_cr(&line[..held]));
+    }
+    lines.read = end;
+    lines.held = held;
+    if lines.more {
         return without_line(lines, Found::Nothing);
     }
-    lines.open = false;
-    if input.error > 0 {
-        return without_line(lines, Found::Failed(input.error));
+    without_line(lines, Found::End)
+}
+
+// What comes of a read into the chunk that gave `count` bytes and, where it gave none, was stopped by an error, 0 for none. At the end of
+// the file a last line without LF counts: what is held of it.
+pub fn filled(mut lines: Lines, count: usize, error: u64) -> Step
+    ensures { λ r. ⌜ r ≡ filledBy lines count error ⌝ }
+{
+    lines.read = 0;
+    lines.count = count;
+    if count > 0 {
+        return without_line(lines, Found::Nothing);
+    }
+    lines.more = false;
+    if error > 0 {
+        return without_line(lines, Found::Failed(error));
     }
     if lines.held > 0 {
         return with_line(lines, lines.held);
     }
     without_line(lines, Found::End)
-}
-
-// One step: the next line of the chunk or, where the chunk is used up, a read. A line that has ended stands at the start of `line`.
-pub fn next(fd: i32, lines: Lines, chunk: &mut [u8], line: &mut [u8]) -> Step
-    requires { ⌜ Inside lines × (length (now chunk) ≡ chunkBytes) × (length (now line) ≡ heldBytes) ⌝ }
-    ensures { λ r. ⌜ Inside (r .lines) × (r .length ≤ heldBytes) ⌝ }
-{
-    let n = lines.count;
-    if lines.at < n {
-        return scan(lines, &chunk[..n], line);
-    }
-    if !lines.open {
-        return without_line(lines, Found::End);
-    }
-    refill(fd, lines, chunk)
 }

@@ -1,9 +1,14 @@
 // A plant's files: sets a controller and a memory up by the console lines of a file, replays a trace on them, and tells each
 // record and its answer in words.
+use crate::fault::say_at;
+use crate::fault::say_bad;
+use crate::fault::say_path;
+use language::sizes::MEMORY_BYTES;
 use libc::STDERR_FILENO;
-use setup::fault::say_path;
-use text::sizes::MEMORY_BYTES;
+use setup::Ended;
+use store::Controller;
 
+mod fault;
 mod play;
 
 // Opens the file that argument i names, or says why it cannot.
@@ -21,12 +26,25 @@ fn open(i: usize) -> i32 {
     fd
 }
 
+// Whether a set-up is made; says why it is not.
+fn is_made(ended: Ended) -> bool {
+    match ended {
+        Ended::Made => return true,
+        Ended::Bad(line) => say_bad(line),
+        Ended::Unread(line) => say_at(b"playback: setup, line", line),
+        Ended::Unwritten(line) => say_at(b"playback: standard output, setup line", line),
+    }
+    false
+}
+
 fn run(setup: i32, trace: i32) {
     let mut memory = [0u8; MEMORY_BYTES];
-    let s = setup::run(setup, &mut memory);
-    if s.good {
-        let conversation = s.conversation;
-        play::run(conversation.shell, trace, &mut memory);
+    let fresh = Controller::new(0, 0);
+    let mut controller = fresh.controller;
+    let s = setup::run(setup, &mut controller.words, &mut memory);
+    let ended = s.ended;
+    if is_made(ended) {
+        play::run(trace, &mut controller.words, &mut memory, s.lent);
     }
 }
 

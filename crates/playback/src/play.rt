@@ -3,13 +3,14 @@
 ghost use mathlib.Core.Path.{_≡_};
 ghost use Prim.Native.Nat.{_≤_};
 ghost use lib.ListN.{length};
-ghost use Rattle.shell.specs.Ready.{Ready};
-ghost use Rattle.text.specs.Sizes.{memoryBytes};
+ghost use Rattle.store.specs.Held.{Reached};
+ghost use Rattle.language.specs.Vocabulary.{memoryBytes};
+ghost use Rattle.playback.specs.Pieces.{takenOf, numberAfter};
+use crate::fault::say_at;
+use language::sizes::MEMORY_BYTES;
 use replay::replay;
-use setup::fault::say_at;
-use shell::Shell;
+use store::WORDS;
 use stream::Input;
-use text::sizes::MEMORY_BYTES;
 use trace::RECORD_BYTES;
 use transcript::piece::PIECE_BYTES;
 use transcript::piece::ROOM_BYTES;
@@ -19,29 +20,15 @@ use transcript::summary::put_summary;
 
 // The records so far, whether more are left, and whether nothing has stopped it.
 struct Play {
-    shell: Shell,
     tally: Tally,
     open: bool,
     good: bool,
 }
 
-// Replays a piece on the memory that is lent.
-fn replayed(mut shell: Shell, memory: &mut [u8], trace: &[u8], answers: &mut [u8]) -> Shell
-    requires { ⌜ Ready shell × (memoryBytes ≤ length (now memory)) ⌝ }
-    ensures { λ r. ⌜ Ready r ⌝ }
-{
-    let lent = shell.lent;
-    replay(
-        &mut shell.controller.words,
-        &mut memory[..lent],
-        trace,
-        answers,
-    );
-    shell
-}
-
 // The number of the record that comes after so many and so many more.
-fn after(records: u64, more: u64) -> u64 {
+fn after(records: u64, more: u64) -> u64
+    ensures { λ r. ⌜ r ≡ numberAfter records more ⌝ }
+{
     std::num::wrapping_add_u64(records, std::num::wrapping_add_u64(more, 1))
 }
 
@@ -56,19 +43,15 @@ fn is_written(out: &[u8], n: usize, records: u64) -> bool
     true
 }
 
-// Replays a piece and prints its records.
-fn print_piece(s: Play, memory: &mut [u8], trace: &[u8], answers: &mut [u8], out: &mut [u8]) -> Play
-    requires { ⌜ Ready (s .shell) × (memoryBytes ≤ length (now memory)) × (length (now trace) ≤ 4096) ⌝ }
-    requires { ⌜ (4096 ≡ length (now answers)) × (65536 ≡ length (now out)) ⌝ }
-    ensures { λ r. ⌜ Ready (r .shell) ⌝ }
+// Prints the records of a piece, given its answer records.
+fn print_piece(s: Play, trace: &[u8], answers: &[u8], out: &mut [u8]) -> Play
+    requires { ⌜ (length (now trace) ≤ 4096) × (4096 ≡ length (now answers)) × (65536 ≡ length (now out)) ⌝ }
 {
-    let shell = replayed(s.shell, memory, trace, answers);
     let tally = s.tally;
     let piece = put_piece(out, tally, trace, answers);
     let next = piece.tally;
     let written = is_written(out, piece.end, tally.records);
     Play {
-        shell: shell,
         tally: next,
         open: s.open,
         good: s.good & written,
@@ -77,7 +60,7 @@ fn print_piece(s: Play, memory: &mut [u8], trace: &[u8], answers: &mut [u8], out
 
 // How many bytes of the input are taken: where an error stopped it, whole records only.
 fn taken(input: Input) -> usize
-    ensures { λ r. ⌜ r ≤ input .count ⌝ }
+    ensures { λ r. ⌜ (r ≡ takenOf input) × (r ≤ input .count) ⌝ }
 {
     if input.error > 0 {
         return input.count - input.count % RECORD_BYTES;
@@ -86,10 +69,7 @@ fn taken(input: Input) -> usize
 }
 
 // Looks at what was read: it goes on where the piece is full.
-fn after_read(mut s: Play, input: Input) -> Play
-    requires { ⌜ Ready (s .shell) ⌝ }
-    ensures { λ r. ⌜ Ready (r .shell) ⌝ }
-{
+fn after_read(mut s: Play, input: Input) -> Play {
     let tally = s.tally;
     if input.error > 0 {
         say_at(
@@ -103,37 +83,59 @@ fn after_read(mut s: Play, input: Input) -> Play
     s
 }
 
-// Reads a piece, and prints its records.
+// Replays a piece on the memory that is lent, and prints its records.
+fn played(
+    s: Play,
+    state: &mut [u64; WORDS],
+    memory: &mut [u8],
+    lent: usize,
+    trace: &[u8],
+    answers: &mut [u8],
+    out: &mut [u8],
+) -> Play
+    requires { ⌜ Reached (now state) × (lent ≤ length (now memory)) × (length (now trace) ≤ 4096) ⌝ }
+    requires { ⌜ (4096 ≡ length (now answers)) × (65536 ≡ length (now out)) ⌝ }
+    ensures { λ r. ⌜ Reached (now (state .exit)) ⌝ }
+{
+    replay(state, &mut memory[..lent], trace, answers);
+    print_piece(s, trace, answers, out)
+}
+
+// Reads a piece, and replays it.
 fn step(
     s: Play,
     fd: i32,
+    state: &mut [u64; WORDS],
     memory: &mut [u8],
+    lent: usize,
     trace: &mut [u8],
     answers: &mut [u8],
     out: &mut [u8],
 ) -> Play
-    requires { ⌜ Ready (s .shell) × (memoryBytes ≤ length (now memory)) × (length (now trace) ≡ 4096) ⌝ }
+    requires { ⌜ Reached (now state) × (lent ≤ length (now memory)) × (length (now trace) ≡ 4096) ⌝ }
     requires { ⌜ (4096 ≡ length (now answers)) × (65536 ≡ length (now out)) ⌝ }
-    ensures { λ r. ⌜ Ready (r .shell) ⌝ }
+    ensures { λ r. ⌜ Reached (now (state .exit)) ⌝ }
 {
     let input = stream::fill(fd, trace);
     let next = after_read(s, input);
     let n = taken(input);
-    print_piece(next, memory, &trace[..n], answers, out)
+    played(next, state, memory, lent, &trace[..n], answers, out)
 }
 
 fn turn(
     s: Play,
     fd: i32,
+    state: &mut [u64; WORDS],
     memory: &mut [u8; MEMORY_BYTES],
+    lent: usize,
     trace: &mut [u8; PIECE_BYTES],
     answers: &mut [u8; PIECE_BYTES],
     out: &mut [u8; ROOM_BYTES],
 ) -> Play
-    requires { ⌜ Ready (s .shell) ⌝ }
-    ensures { λ r. ⌜ Ready (r .shell) ⌝ }
+    requires { ⌜ Reached (now state) × (lent ≤ memoryBytes) ⌝ }
+    ensures { λ r. ⌜ Reached (now (state .exit)) ⌝ }
 {
-    step(s, fd, memory, trace, answers, out)
+    step(s, fd, state, memory, lent, trace, answers, out)
 }
 
 fn print_summary(tally: Tally, out: &mut [u8; ROOM_BYTES]) {
@@ -143,21 +145,29 @@ fn print_summary(tally: Tally, out: &mut [u8; ROOM_BYTES]) {
 
 // Replays the whole trace; the summary is printed where nothing has stopped it. A proved loop has to end: the turns are counted
 // down, from a number that no run uses up.
-pub(super) fn run(shell: Shell, fd: i32, memory: &mut [u8; MEMORY_BYTES])
-    requires { ⌜ Ready shell ⌝ }
+pub(super) fn run(fd: i32, state: &mut [u64; WORDS], memory: &mut [u8; MEMORY_BYTES], lent: usize)
+    requires { ⌜ Reached (now state) × (lent ≤ memoryBytes) ⌝ }
 {
     let mut trace = [0u8; PIECE_BYTES];
     let mut answers = [0u8; PIECE_BYTES];
     let mut out = [0u8; ROOM_BYTES];
     let mut s = Play {
-        shell: shell,
         tally: Tally::new(),
         open: true,
         good: true,
     };
     let mut turns = u64::MAX;
     while turns > 0 && s.open && s.good {
-        s = turn(s, fd, memory, &mut trace, &mut answers, &mut out);
+        s = turn(
+            s,
+            fd,
+            state,
+            memory,
+            lent,
+            &mut trace,
+            &mut answers,
+            &mut out,
+        );
         turns -= 1;
     }
     if s.good {

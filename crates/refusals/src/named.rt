@@ -1,13 +1,15 @@
 // Words with numbers.
 ghost use Prim.Native.Nat.{_+_, _≤_};
 ghost use lib.ListN.{length};
-use text::print::put;
-use text::print::put_next;
+ghost use Rattle.print.specs.Put.{Put};
+ghost use Rattle.refusals.specs.Named.{named, pair};
+use print::put;
+use print::put_next;
 
 // A text, a space and a number.
 pub fn put_named(out: &mut [u8], at: usize, name: &[u8], n: u64) -> usize
-    requires { ⌜ at + length (now name) + 21 ≤ length (now out) ⌝ }
-    ensures { λ r. ⌜ r ≤ at + length (now (name .entry)) + 21 ⌝ }
+    requires { ⌜ at + length (named (now name) n) ≤ length (now out) ⌝ }
+    ensures { λ r. ⌜ Put (now (out .entry)) at (named (now (name .entry)) n) (now (out .exit)) r ⌝ }
 {
     let to = put(out, at, name);
     put_next(out, to, n)
@@ -15,8 +17,8 @@ pub fn put_named(out: &mut [u8], at: usize, name: &[u8], n: u64) -> usize
 
 // Two of them.
 pub fn put_pair(out: &mut [u8], at: usize, a: &[u8], x: u64, b: &[u8], y: u64) -> usize
-    requires { ⌜ at + length (now a) + length (now b) + 42 ≤ length (now out) ⌝ }
-    ensures { λ r. ⌜ r ≤ at + length (now (a .entry)) + length (now (b .entry)) + 42 ⌝ }
+    requires { ⌜ at + length (pair (now a) x (now b) y) ≤ length (now out) ⌝ }
+    ensures { λ r. ⌜ Put (now (out .entry)) at (pair (now (a .entry)) x (now (b .entry)) y) (now (out .exit)) r ⌝ }
 {
     let to = put_named(out, at, a, x);
     put_named(out, to, b, y)

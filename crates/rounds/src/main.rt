@@ -14,15 +14,15 @@ use entry::submission::Submission;
 use finisher::finish;
 use libc::STDIN_FILENO;
 use libc::STDOUT_FILENO;
+use parse::line::Word;
+use parse::line::next_word;
+use parse::number::Number;
+use parse::number::value_of;
 use queues::create::create_cq;
 use queues::create::create_sq;
 use starter::start;
 use store::Controller;
 use store::WORDS;
-use text::line::Word;
-use text::line::next_word;
-use text::number::Number;
-use text::number::value_of;
 
 // A page for each of the 16 submission and 16 completion rings.
 const MEMORY_BYTES: usize = 131072;

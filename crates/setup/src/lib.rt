@@ -2,154 +2,194 @@
 ghost use mathlib.Core.Path.{_≡_};
 ghost use Prim.Native.Nat.{_≤_};
 ghost use lib.ListN.{length};
-ghost use Rattle.conversation.specs.Kept.{Kept};
-ghost use Rattle.shell.specs.Ready.{Ready};
-ghost use Rattle.text.specs.Sizes.{chunkBytes, heldBytes, memoryBytes, outBytes};
-use crate::fault::say_at;
-use crate::line::put_refused_line;
+ghost use Rattle.store.specs.Held.{Reached};
+ghost use Rattle.print.specs.Put.{Put};
+ghost use Rattle.lines.specs.Sizes.{heldBytes};
+ghost use Rattle.language.specs.Vocabulary.{memoryBytes};
+ghost use Rattle.conversation.specs.Sizes.{outBytes};
+ghost use Rattle.conversation.specs.Steps.{Kept};
+ghost use Rattle.setup.specs.Refused.{refusedLine};
 use conversation::Conversation;
-use conversation::form::Form;
-use libc::STDERR_FILENO;
+use conversation::OUT_BYTES;
+use conversation::Step;
+use form::Form;
+use language::sizes::MEMORY_BYTES;
+use language::sizes::NUMBERS;
+use language::sizes::WALK_BYTES;
+use lines::CHUNK_BYTES;
 use lines::Found;
-use text::line::next_word;
-use text::sizes::CHUNK_BYTES;
-use text::sizes::HELD_BYTES;
-use text::sizes::MEMORY_BYTES;
-use text::sizes::OUT_BYTES;
+use lines::HELD_BYTES;
+use parse::line::next_word;
+use store::WORDS;
+use transcript::setup_line::put_setup_line;
 
-pub mod fault;
-mod line;
+// How a set-up has ended: all lines are answered; or, at the line of a number, that is bad, the file cannot be read, or standard output not
+// be written. `errno` then still holds the reason.
+pub enum Ended {
+    Made,
+    Bad(u64),
+    Unread(u64),
+    Unwritten(u64),
+}
 
-// Whether lines are left, and whether nothing has stopped it.
+// How many bytes of the memory are lent, and how it has ended.
 pub struct Setup {
-    pub conversation: Conversation,
-    pub open: bool,
-    pub good: bool,
+    pub lent: usize,
+    pub ended: Ended,
 }
 
-// Says that a line is bad.
-fn say_bad(number: u64) -> bool {
-    io::write_all(STDERR_FILENO, b"playback: setup, line ");
-    io::print_decimal(STDERR_FILENO, number);
-    io::write_all(STDERR_FILENO, b": a bad line; nothing is replayed\n");
-    false
+// A set-up on its way: whether it goes on, and if not how it has ended.
+struct Progress {
+    conversation: Conversation,
+    open: bool,
+    ended: Ended,
 }
 
-// Prints a line that asked for a change which was refused, and answers whether it could.
-fn print_refused(line: &[u8], number: u64, refusal: u64, out: &mut [u8]) -> bool
+// What is told of a line whose call was refused, at the start of `out`.
+fn put_refused(line: &[u8], number: u64, refusal: u64, out: &mut [u8]) -> usize
     requires { ⌜ (length (now line) ≤ heldBytes) × (outBytes ≡ length (now out)) ⌝ }
+    ensures { λ r. ⌜ Put (now (out .entry)) 0 (refusedLine (now (line .entry)) number refusal) (now (out .exit)) r
+        × (r ≤ length (now (out .entry))) ⌝ }
 {
     let word = next_word(line, 0);
     let start = word.start;
     let end = word.end;
-    let n = put_refused_line(out, number, &line[start..end], refusal);
-    if stream::write(&out[..n]) > 0 {
-        say_at(b"playback: standard output, setup line", number);
-        return false;
+    put_setup_line(out, 0, number, &line[start..end], refusal)
+}
+
+// Tells it, and answers whether standard output could be written.
+fn is_told(line: &[u8], number: u64, refusal: u64, out: &mut [u8]) -> bool
+    requires { ⌜ (length (now line) ≤ heldBytes) × (outBytes ≡ length (now out)) ⌝ }
+{
+    let n = put_refused(line, number, refusal, out);
+    stream::write(&out[..n]) == 0
+}
+
+fn going(conversation: Conversation) -> Progress
+    ensures { λ r. ⌜ r .conversation ≡ conversation ⌝ }
+{
+    Progress {
+        conversation: conversation,
+        open: true,
+        ended: Ended::Made,
     }
-    true
 }
 
-// Looks at how a line of n bytes was answered, and says whether the set-up goes on.
-fn judge(line: &[u8], n: usize, number: u64, good: bool, refusal: u64, out: &mut [u8]) -> bool
-    requires { ⌜ (n ≤ heldBytes) × (heldBytes ≡ length (now line)) × (outBytes ≡ length (now out)) ⌝ }
+fn stopped(conversation: Conversation, ended: Ended) -> Progress
+    ensures { λ r. ⌜ r .conversation ≡ conversation ⌝ }
 {
-    if !good {
-        return say_bad(number);
+    Progress {
+        conversation: conversation,
+        open: false,
+        ended: ended,
     }
-    if refusal == 0 {
-        return true;
+}
+
+// How it stands after a line, which was answered.
+fn judged(step: Step, line: &[u8], out: &mut [u8]) -> Progress
+    requires { ⌜ (length (now line) ≤ heldBytes) × (outBytes ≡ length (now out)) ⌝ }
+    ensures { λ r. ⌜ r .conversation ≡ step .conversation ⌝ }
+{
+    let conversation = step.conversation;
+    let lines = conversation.lines;
+    if !step.good {
+        return stopped(conversation, Ended::Bad(lines.ended));
     }
-    print_refused(&line[..n], number, refusal, out)
+    if step.refusal == 0 {
+        return going(conversation);
+    }
+    if is_told(line, lines.ended, step.refusal, out) {
+        return going(conversation);
+    }
+    stopped(conversation, Ended::Unwritten(lines.ended))
 }
 
-fn ended(mut s: Setup) -> Setup
-    requires { ⌜ Kept (s .conversation) ⌝ }
-    ensures { λ r. ⌜ Kept (r .conversation) ⌝ }
+// How it stands after a step; a line that ended stands at the start of `line`.
+fn after(step: Step, line: &[u8], out: &mut [u8]) -> Progress
+    requires { ⌜ (step .length ≤ heldBytes) × (length (now line) ≡ heldBytes) × (outBytes ≡ length (now out)) ⌝ }
+    ensures { λ r. ⌜ r .conversation ≡ step .conversation ⌝ }
 {
-    s.open = false;
-    s
-}
-
-fn failed(mut s: Setup, lines: u64) -> Setup
-    requires { ⌜ Kept (s .conversation) ⌝ }
-    ensures { λ r. ⌜ Kept (r .conversation) ⌝ }
-{
-    say_at(
-        b"playback: setup, line",
-        std::num::wrapping_add_u64(lines, 1),
-    );
-    s.good = false;
-    s
-}
-
-// Takes a step in the file, and looks at the answer to a line that ended.
-fn step(
-    mut s: Setup,
-    fd: i32,
-    memory: &mut [u8],
-    chunk: &mut [u8],
-    line: &mut [u8],
-    out: &mut [u8],
-) -> Setup
-    requires { ⌜ Kept (s .conversation) × (memoryBytes ≤ length (now memory)) × (outBytes ≡ length (now out)) ⌝ }
-    requires { ⌜ (length (now chunk) ≡ chunkBytes) × (length (now line) ≡ heldBytes) ⌝ }
-    ensures { λ r. ⌜ Kept (r .conversation) ⌝ }
-{
-    let step = conversation::next(s.conversation, fd, Form::Alone, memory, chunk, line, out, 0);
     let conversation = step.conversation;
     let lines = conversation.lines;
     let found = step.found;
-    s.conversation = conversation;
     match found {
         Found::Line => {
-            s.good = judge(line, step.length, lines.ended, step.good, step.refusal, out);
-            s
+            let n = step.length;
+            judged(step, &line[..n], out)
         }
-        Found::Nothing => s,
-        Found::End => ended(s),
-        Found::Failed(_) => failed(s, lines.ended),
+        Found::Nothing => going(conversation),
+        Found::End => stopped(conversation, Ended::Made),
+        Found::Failed(_) => stopped(
+            conversation,
+            Ended::Unread(std::num::wrapping_add_u64(lines.ended, 1)),
+        ),
     }
 }
 
-fn turn(
-    s: Setup,
+// Takes a step in the file. The last two buffers are to work in.
+fn next(
+    conversation: Conversation,
     fd: i32,
+    state: &mut [u64; WORDS],
     memory: &mut [u8; MEMORY_BYTES],
     chunk: &mut [u8; CHUNK_BYTES],
     line: &mut [u8; HELD_BYTES],
     out: &mut [u8; OUT_BYTES],
-) -> Setup
-    requires { ⌜ Kept (s .conversation) ⌝ }
-    ensures { λ r. ⌜ Kept (r .conversation) ⌝ }
+    first: &mut [u8; WALK_BYTES],
+    second: &mut [u8; WALK_BYTES],
+) -> Progress
+    requires { ⌜ Kept conversation (now state) ⌝ }
+    ensures { λ r. ⌜ Kept (r .conversation) (now (state .exit)) ⌝ }
 {
-    step(s, fd, memory, chunk, line, out)
+    let mut numbers = [0u64; NUMBERS];
+    let step = conversation::next(
+        conversation,
+        fd,
+        Form::Alone,
+        state,
+        memory,
+        chunk,
+        line,
+        out,
+        0,
+        &mut numbers,
+        first,
+        second,
+    );
+    after(step, line, out)
 }
 
-fn first() -> Setup
-    ensures { λ r. ⌜ Kept (r .conversation) ⌝ }
-{
-    let conversation = conversation::first();
-    Setup {
-        conversation: conversation,
-        open: true,
-        good: true,
-    }
-}
-
-// Answers all lines, or those before one that is bad. A proved loop has to end: the turns are counted down, from a number that no
-// run uses up.
-pub fn run(fd: i32, memory: &mut [u8; MEMORY_BYTES]) -> Setup
-    ensures { λ r. ⌜ Ready (r .conversation .shell) ⌝ }
+// Answers all lines, or those before one that stops it. A proved loop has to end: the turns are counted down, from a number that no run
+// uses up.
+pub fn run(fd: i32, state: &mut [u64; WORDS], memory: &mut [u8; MEMORY_BYTES]) -> Setup
+    requires { ⌜ Reached (now state) ⌝ }
+    ensures { λ r. ⌜ Reached (now (state .exit)) × (r .lent ≤ memoryBytes) ⌝ }
 {
     let mut chunk = [0u8; CHUNK_BYTES];
     let mut line = [0u8; HELD_BYTES];
     let mut out = [0u8; OUT_BYTES];
-    let mut s = first();
+    let mut first = [0u8; WALK_BYTES];
+    let mut second = [0u8; WALK_BYTES];
+    let mut s = going(conversation::first());
     let mut turns = u64::MAX;
-    while turns > 0 && s.open && s.good {
-        s = turn(s, fd, memory, &mut chunk, &mut line, &mut out);
+    while turns > 0 && s.open {
+        s = next(
+            s.conversation,
+            fd,
+            state,
+            memory,
+            &mut chunk,
+            &mut line,
+            &mut out,
+            &mut first,
+            &mut second,
+        );
         turns -= 1;
     }
-    s
+    let conversation = s.conversation;
+    let ended = s.ended;
+    Setup {
+        lent: conversation.lent,
+        ended: ended,
+    }
 }

@@ -1,5 +1,7 @@
-// The console's commands that need no controller: those on the memory, and the checks on plain numbers.
-pub mod codec;
-pub mod listing;
+// The console's commands that need no controller, those on the memory, and answers, printed.
+pub mod part;
+pub mod peek;
 pub mod poke;
 pub mod reply;
+pub mod speak;
+pub mod walk;

@@ -1,84 +1,60 @@
-// The commands that write memory as bytes and numbers.
-ghost use Prim.Native.Nat.{_^_, _<_, _≤_};
+// Values put into the memory.
+ghost use mathlib.Core.Path.{_≡_};
+ghost use Prim.Native.Nat.{_+_, _*_, _≤_, _<_};
 ghost use lib.ListN.{length};
+ghost use Rattle.le.specs.Le.{le};
+ghost use Rattle.controller.specs.Controller.{Controller};
+ghost use Rattle.print.specs.Text.{each};
+ghost use Rattle.print.specs.Put.{Put};
+ghost use Rattle.language.specs.Replies as s;
+ghost use Rattle.language.specs.Commands.{poked};
+ghost use Rattle.stateless.specs.Leaving.{heard};
 use crate::reply::Reply;
-use text::arguments::Arguments;
-use text::line::next_word;
-use text::number::Number;
-use text::number::value_of;
+use crate::reply::bad;
+use crate::reply::told;
 
-// One more than the count of the numbers, 8 bytes wide or one, that fit into so many bytes.
-fn rooms(bytes: usize, wide: bool) -> usize
-    requires { ⌜ bytes < 2 ^ 63 ⌝ }
+// One value of so many bytes.
+fn put_value(memory: &mut [u8], at: usize, n: u64, width: usize) -> usize
+    requires { ⌜ at + width ≤ length (now memory) ⌝ }
+    ensures { λ r. ⌜ Put (now (memory .entry)) at (le width n) (now (memory .exit)) r ⌝ }
 {
-    if wide { bytes / 8 + 1 } else { bytes + 1 }
-}
-
-// Stores a number at `at` as 8 bytes or as one, where there is room for it, and answers the place after it.
-fn put_value(memory: &mut [u8], at: usize, n: u64, wide: bool) -> usize
-    requires { ⌜ at ≤ length (now memory) ⌝ }
-    ensures { λ r. ⌜ r ≤ length (now (memory .exit)) ⌝ }
-{
-    let room = memory.len() - at;
-    if wide {
-        if room < 8 {
-            return at;
-        }
-        le::put64(memory, at, n);
-        return at + 8;
-    }
-    if room < 1 {
-        return at;
-    }
-    le::put8(memory, at, n);
-    at + 1
-}
-
-// Stores the numbers that stand in a line from `at` on, and answers how many there are.
-fn store(memory: &mut [u8], from: usize, line: &[u8], at: usize, wide: bool) -> u64
-    requires { ⌜ (from ≤ length (now memory)) × (at ≤ length (now line)) ⌝ }
-{
-    let mut to = from;
-    let mut i = at;
-    let mut stored: u64 = 0;
-    loop {
-        let w = next_word(line, i);
-        let start = w.start;
-        let end = w.end;
-        if start == end {
-            return stored;
-        }
-        let Number::Is(n) = value_of(&line[start..end]) else {
-            return stored;
-        };
-        to = put_value(memory, to, n, wide);
-        stored += 1;
-        i = end;
-    }
-}
-
-// Stores the numbers after the first, which says where; `at` is the place of the first in the line.
-pub fn poke(memory: &mut [u8], line: &[u8], at: usize, a: Arguments, wide: bool) -> Reply
-    requires { ⌜ at ≤ length (now line) ⌝ }
-{
-    let to = a.numbers[0];
-    let n = memory.len() as u64;
-    if n < to {
-        return Reply::bad();
-    }
-    let from = to as usize;
-    if rooms(memory.len() - from, wide) < a.count {
-        return Reply::bad();
-    }
-    let first = next_word(line, at);
-    Reply::of(store(memory, from, line, first.end, wide))
-}
-
-// Stores one byte everywhere.
-pub(crate) fn fill(part: &mut [u8], b: u8) {
+    let mut rest = n;
     let mut i = 0;
-    while i < part.len() {
-        part[i] = b;
+    while i < width {
+        le::put8(memory, at + i, rest);
+        rest /= 256;
         i += 1;
     }
+    at + width
+}
+
+// Values of so many bytes each, one behind the other.
+fn put_values(memory: &mut [u8], at: usize, values: &[u64], width: usize) -> usize
+    requires { ⌜ at + length (each (le width) (now values)) ≤ length (now memory) ⌝ }
+    ensures { λ r. ⌜ Put (now (memory .entry)) at (each (le width) (now (values .entry))) (now (memory .exit)) r ⌝ }
+{
+    let mut to = at;
+    let mut i = 0;
+    while i < values.len() {
+        to = put_value(memory, to, values[i], width);
+        i += 1;
+    }
+    to
+}
+
+pub fn poke(memory: &mut [u8], place: u64, values: &[u64], width: usize) -> Reply
+    requires { ⌜ 0 < width ⌝ }
+    ensures { λ r. ⌜ ((c : Controller) → s.reply (heard r) c (now (memory .exit))
+        ≡ poked c (now (memory .entry)) width place (now (values .entry))) × (r .count ≤ 16) ⌝ }
+{
+    let n = memory.len() as u64;
+    if n < place {
+        return bad();
+    }
+    let at = place as usize;
+    if (memory.len() - at) / width < values.len() {
+        return bad();
+    }
+    put_values(memory, at, values, width);
+    told(values.len() as u64, 1)
 }

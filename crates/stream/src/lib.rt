@@ -1,8 +1,10 @@
 // Reading from a file and writing to standard output. A call that a signal interrupted, or that a non-blocking stream could
 // not make yet, is made again after a short sleep.
-ghost use Prim.Native.Nat.{_≤_};
+ghost use mathlib.Core.Path.{_≡_};
+ghost use Prim.Native.Nat.{_^_, _≤_, _<_};
 ghost use lib.ListN.{length};
 ghost use Rattle.io.specs.Counts.{Counts};
+ghost use Rattle.stream.specs.Stops.{numberOf, Stops, Fatal};
 use libc::EAGAIN;
 use libc::EINTR;
 use libc::STDOUT_FILENO;
@@ -28,7 +30,9 @@ fn sleep() {
 }
 
 // The number of an error, 0 for none.
-fn number(error: i32) -> u64 {
+fn number(error: i32) -> u64
+    ensures { λ r. ⌜ (r ≡ numberOf error) × (r < 2 ^ 31) ⌝ }
+{
     if error > 0 {
         return error as u64;
     }
@@ -37,14 +41,18 @@ fn number(error: i32) -> u64 {
 
 // The error for which a call that has just answered `moved` is not to be made again; 0 for none, after a short sleep where
 // nothing was moved.
-fn fatal(moved: isize) -> u64 {
+fn fatal(moved: isize) -> u64
+    ensures { λ r. ⌜ Fatal r ⌝ }
+{
     if moved > 0 {
         return 0;
     }
     if moved < 0 {
         let error = os::errno();
-        if error != EINTR && error != EAGAIN {
-            return number(error);
+        if error != EINTR {
+            if error != EAGAIN {
+                return number(error);
+            }
         }
     }
     sleep();
@@ -55,6 +63,7 @@ fn fatal(moved: isize) -> u64 {
 // run uses up.
 pub fn read(fd: i32, buf: &mut [u8]) -> Input
     ensures { λ r. ⌜ Counts (r .count) (now (buf .exit)) ⌝ }
+    ensures { λ r. ⌜ Stops (r .error) × (0 < r .error → r .count ≡ 0) ⌝ }
 {
     let mut tries = u64::MAX;
     while tries > 0 {
@@ -83,6 +92,7 @@ pub fn read(fd: i32, buf: &mut [u8]) -> Input
 // Reads until the buffer is full, the input ends or an error stops it, which may be after some bytes.
 pub fn fill(fd: i32, buf: &mut [u8]) -> Input
     ensures { λ r. ⌜ r .count ≤ length (now (buf .exit)) ⌝ }
+    ensures { λ r. ⌜ Stops (r .error) × (0 < r .error → r .count < length (now (buf .exit))) ⌝ }
 {
     let mut done: usize = 0;
     while done < buf.len() {
@@ -102,7 +112,9 @@ pub fn fill(fd: i32, buf: &mut [u8]) -> Input
 }
 
 // Writes a text to standard output, however many calls that takes, and answers the number of the error that stopped it, 0 for none.
-pub fn write(text: &[u8]) -> u64 {
+pub fn write(text: &[u8]) -> u64
+    ensures { λ r. ⌜ Stops r × (length (now (text .entry)) ≡ 0 → r ≡ 0) ⌝ }
+{
     let mut done: usize = 0;
     let mut tries = u64::MAX;
     while tries > 0 && done < text.len() {

@@ -1,8 +1,8 @@
 // The summary of made-up answers: some of their numbers no trace of a test reaches.
 use libc::STDOUT_FILENO;
+use print::put_end;
 use refusals::LARGEST;
 use refusals::put_meaning;
-use text::print::put_end;
 use transcript::piece::ROOM_BYTES;
 use transcript::summary::Tally;
 use transcript::summary::put_summary;

@@ -1,6 +1,9 @@
 // A piece of a trace: up to 256 records, each on a line.
-ghost use Prim.Native.Nat.{_+_, _*_, _<_, _≤_};
+ghost use mathlib.Core.Path.{_≡_};
+ghost use Prim.Native.Nat.{_≤_};
 ghost use lib.ListN.{length};
+ghost use Rattle.print.specs.Put.{Put};
+ghost use Rattle.transcript.specs.Piece.{pieceText, pieceTally};
 use crate::record::put_record;
 use crate::summary::Tally;
 use trace::RECORD_BYTES;
@@ -8,7 +11,7 @@ use trace::next_at;
 
 pub const PIECE_BYTES: usize = 4096;
 
-// The room for the lines of a piece.
+// Room for the lines of every piece.
 pub const ROOM_BYTES: usize = 65536;
 
 // The place after the lines, and the records counted.
@@ -17,47 +20,25 @@ pub struct Written {
     pub tally: Tally,
 }
 
-// Where the record that begins at a place ends.
-fn end_of(trace: &[u8], at: usize) -> usize
-    requires { ⌜ at ≤ length (now trace) ⌝ }
-    ensures { λ r. ⌜ (at ≤ r) × (r ≤ length (now (trace .entry))) ⌝ }
-{
-    next_at(trace, at)
-}
-
-// The line of record i of the piece.
-fn put_at(out: &mut [u8], written: Written, trace: &[u8], answers: &[u8], i: usize) -> Written
-    requires { ⌜ (16 * i < length (now trace)) × (16 * i + 16 ≤ length (now answers)) × (written .end + 256 ≤ length (now out)) ⌝ }
-    ensures { λ r. ⌜ r .end ≤ written .end + 256 ⌝ }
-{
-    let at = RECORD_BYTES * i;
-    let tally = written.tally.with(le::get8(answers, at + 1));
-    let end = end_of(trace, at);
-    Written {
-        end: put_record(
-            out,
-            written.end,
-            tally.records,
-            &trace[at..end],
-            &answers[at..],
-        ),
-        tally: tally,
-    }
-}
-
 // The lines of a piece, given its answer records; the records before it are counted.
 pub fn put_piece(out: &mut [u8], tally: Tally, trace: &[u8], answers: &[u8]) -> Written
-    requires { ⌜ (length (now trace) ≤ 4096) × (4096 ≤ length (now answers)) × (65536 ≤ length (now out)) ⌝ }
-    ensures { λ r. ⌜ r .end ≤ 65536 ⌝ }
+    requires { ⌜ (length (now trace) ≤ 4096) × (4096 ≤ length (now answers)) ⌝ }
+    requires { ⌜ length (pieceText tally (now trace) (now answers)) ≤ length (now out) ⌝ }
+    ensures { λ r. ⌜ Put (now (out .entry)) 0 (pieceText tally (now (trace .entry)) (now (answers .entry))) (now (out .exit)) (r .end) ⌝ }
+    ensures { λ r. ⌜ r .tally ≡ pieceTally tally (now (trace .entry)) (now (answers .entry)) ⌝ }
 {
-    let mut written = Written {
-        end: 0,
-        tally: tally,
-    };
-    let mut i: usize = 0;
-    while RECORD_BYTES * i < trace.len() {
-        written = put_at(out, written, trace, answers, i);
-        i += 1;
+    let mut after = tally;
+    let mut to = 0;
+    let mut at = 0;
+    while at < trace.len() {
+        let end = next_at(trace, at);
+        let next = at + RECORD_BYTES;
+        after = after.with(le::get8(answers, at + 1));
+        to = put_record(out, to, after.records, &trace[at..end], &answers[at..next]);
+        at = next;
     }
-    written
+    Written {
+        end: to,
+        tally: after,
+    }
 }

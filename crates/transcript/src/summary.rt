@@ -1,18 +1,25 @@
 // The records of a trace, counted.
-ghost use Prim.Native.Nat.{_+_, _<_, _≤_};
+ghost use mathlib.Core.Path.{_≡_};
+ghost use Prim.Native.Nat.{_+_, _≤_};
 ghost use lib.ListN.{length};
+ghost use Rattle.rules.specs.Rules.{pick};
+ghost use Rattle.print.specs.Put.{Put};
+ghost use Rattle.refusals.specs.Meaning.{isOfRecord};
+ghost use Rattle.transcript.specs.Tally.{noRecords, oneMore, counted};
+ghost use Rattle.transcript.specs.Summary.{countsText, marginText, rowText, summaryText};
+use print::put;
+use print::put_end;
 use refusals::LARGEST;
 use refusals::is_of_record;
 use refusals::named::put_named;
 use refusals::named::put_pair;
 use refusals::put_meaning;
-use text::print::put;
-use text::print::put_end;
 
 // A place for each refusal number, and for 0.
 const NUMBERS: usize = LARGEST + 1;
 
-// How many records there were, how many of them asked for a call, how many were refused, and how many by each number.
+// How many records there were, how many of them asked for a call, how many were refused, and how many by each number. After the
+// largest number of 64 bits a count begins at 0 again.
 pub struct Tally {
     pub records: u64,
     pub calls: u64,
@@ -20,12 +27,26 @@ pub struct Tally {
     pub numbers: [u64; NUMBERS],
 }
 
-fn plus_one(n: u64) -> u64 {
+fn plus_one(n: u64) -> u64
+    ensures { λ r. ⌜ r ≡ oneMore n ⌝ }
+{
     std::num::wrapping_add_u64(n, 1)
 }
 
+// Counts a call, unless the refusal number says that the record asked for none.
+fn calls_after(calls: u64, refusal: u64) -> u64
+    ensures { λ r. ⌜ r ≡ pick (isOfRecord refusal) calls (oneMore calls) ⌝ }
+{
+    if is_of_record(refusal) {
+        return calls;
+    }
+    plus_one(calls)
+}
+
 impl Tally {
-    pub fn new() -> Tally {
+    pub fn new() -> Tally
+        ensures { λ r. ⌜ r ≡ noRecords ⌝ }
+    {
         Tally {
             records: 0,
             calls: 0,
@@ -34,32 +55,40 @@ impl Tally {
         }
     }
 
-    fn refused(mut self, refusal: u64) -> Tally {
-        self.refused = plus_one(self.refused);
-        let i = refusal as usize;
-        if i < NUMBERS {
-            self.numbers[i] = plus_one(self.numbers[i]);
-        }
-        self
-    }
-
-    // Counts a record by its refusal number, 0 for none.
-    pub fn with(mut self, refusal: u64) -> Tally {
+    // Counts a record by its refusal number, 0 for none. A number above the largest counts as refused, and has no count of its own.
+    pub fn with(mut self, refusal: u64) -> Tally
+        ensures { λ r. ⌜ r ≡ counted self refusal ⌝ }
+    {
         self.records = plus_one(self.records);
-        if !is_of_record(refusal) {
-            self.calls = plus_one(self.calls);
-        }
+        self.calls = calls_after(self.calls, refusal);
         if refusal == 0 {
             return self;
         }
-        self.refused(refusal)
+        self.refused = plus_one(self.refused);
+        let i = refusal as usize;
+        if NUMBERS <= i {
+            return self;
+        }
+        self.numbers[i] = plus_one(self.numbers[i]);
+        self
     }
+}
+
+// A number of one digit stands below the second of two.
+fn put_margin(out: &mut [u8], at: usize, number: u64) -> usize
+    requires { ⌜ at + length (marginText number) ≤ length (now out) ⌝ }
+    ensures { λ r. ⌜ Put (now (out .entry)) at (marginText number) (now (out .exit)) r ⌝ }
+{
+    if number < 10 {
+        return put(out, at, b" ");
+    }
+    at
 }
 
 // A refusal number, how many records it refused, and its meaning; nothing where it refused none.
 fn put_row(out: &mut [u8], at: usize, number: u64, count: u64) -> usize
-    requires { ⌜ at + 160 ≤ length (now out) ⌝ }
-    ensures { λ r. ⌜ r ≤ at + 160 ⌝ }
+    requires { ⌜ at + length (rowText number count) ≤ length (now out) ⌝ }
+    ensures { λ r. ⌜ Put (now (out .entry)) at (rowText number count) (now (out .exit)) r ⌝ }
 {
     if count == 0 {
         return at;
@@ -71,24 +100,13 @@ fn put_row(out: &mut [u8], at: usize, number: u64, count: u64) -> usize
     put_end(out, end)
 }
 
-// A number of one digit stands below the second of two.
-fn put_margin(out: &mut [u8], at: usize, number: u64) -> usize
-    requires { ⌜ at + 1 ≤ length (now out) ⌝ }
-    ensures { λ r. ⌜ r ≤ at + 1 ⌝ }
-{
-    if number < 10 {
-        return put(out, at, b" ");
-    }
-    at
-}
-
-fn put_counts(out: &mut [u8], tally: Tally) -> usize
-    requires { ⌜ 160 ≤ length (now out) ⌝ }
-    ensures { λ r. ⌜ r ≤ 160 ⌝ }
+fn put_counts(out: &mut [u8], at: usize, tally: Tally) -> usize
+    requires { ⌜ at + length (countsText tally) ≤ length (now out) ⌝ }
+    ensures { λ r. ⌜ Put (now (out .entry)) at (countsText tally) (now (out .exit)) r ⌝ }
 {
     let records = put_pair(
         out,
-        0,
+        at,
         b"summary:",
         tally.records,
         b" records,",
@@ -98,13 +116,13 @@ fn put_counts(out: &mut [u8], tally: Tally) -> usize
     put(out, refused, b" refused\n")
 }
 
-// The counts, and a row for each number that refused a record. An answer record has a byte for the number: there is room for 256.
+// The counts, and a row for each number that refused a record.
 pub fn put_summary(out: &mut [u8], tally: Tally) -> usize
-    requires { ⌜ 40960 ≤ length (now out) ⌝ }
-    ensures { λ r. ⌜ r ≤ 40960 ⌝ }
+    requires { ⌜ length (summaryText tally) ≤ length (now out) ⌝ }
+    ensures { λ r. ⌜ Put (now (out .entry)) 0 (summaryText tally) (now (out .exit)) r ⌝ }
 {
     let numbers = tally.numbers;
-    let mut to = put_counts(out, tally);
+    let mut to = put_counts(out, 0, tally);
     let mut i: usize = 1;
     while i < NUMBERS {
         to = put_row(out, to, i as u64, numbers[i]);

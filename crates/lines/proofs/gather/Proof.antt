@@ -1,24 +1,43 @@
--- `lines::gather` reads on in the chunk and ends: each turn passes a byte. Assumes nothing.
+-- `gather` meets its contract. Assumes nothing.
+use mathlib.Core.Path.{_≡_, ap}
+use Prim.Native.Nat.{ℕ, _-_, _+_, _≤_}
+use native.Mathlib.Omega.{arith}
 use borrow.Author.Needs.{needs}
-use Prim.Native.Nat.{_≤_, _-_}
-use lib.ListN.{length}
-use mathlib.Core.Path.{_≡_}
-use Rattle.text.specs.Sizes.{heldBytes}
+use lib.ListN.{length, take, drop}
+use Rattle.print.proofs.Puts.{put-as}
+use Rattle.parse.specs.Line.{before}
+use Rattle.lines.specs.Sizes.{heldBytes}
+use Rattle.lines.proofs.Gathers.{put-some, put-all}
 use Rattle.lines.proofs.gather.Statement.{statement}
 use Rattle.lines.proofs.gather.Tie as tie
 
-abbrev Inv-loop : tie.InvT-loop
-Inv-loop chunk at line₀ held i₀ n₀ line i n = (at ≤ i) × (i ≤ length chunk) × (n ≤ heldBytes) × (length line ≡ length line₀)
+returns : tie.Need-returns
+returns c =
+    let s = c .before .before .before .before .before .before .before .before .before in
+    let f = c .before .before .before .before .before .before .find .ensures in
+    let r = drop (s .args .read) (s .args .chunk .now) in
+    let k : s .args .held ≤ length (s .args .line .now) = omega (arith, s .pre .2) in
+    let i : heldBytes - s .args .held ≤ before 10 r = omega arith in
+    let t : s .args .read + (heldBytes - s .args .held) - s .args .read ≡ heldBytes - s .args .held = omega arith in
+    (f .0, f .1, put-some heldBytes _ r _ _ (s .pre .1) k i (put-as (c .before .before .put .ensures) (ap (λ (n : ℕ). take n r) t)))
 
-abbrev μ-loop : tie.MeasureT-loop
-μ-loop chunk at line₀ held i₀ n₀ line i n = length chunk - i
+returns-2 : tie.Need-returns-2
+returns-2 c =
+    let s = c .before .before .before .before .before .before .before .before .before in
+    let f = c .before .before .before .before .before .before .find in
+    let r = drop (s .args .read) (s .args .chunk .now) in
+    let k : s .args .held ≤ length (s .args .line .now) = omega (arith, s .pre .2) in
+    let i : before 10 r ≤ heldBytes - s .args .held = omega arith in
+    let t : f .result - s .args .read ≡ before 10 r = omega arith in
+    let p = put-as (c .before .before .put2 .ensures) (ap (λ (n : ℕ). take n r) t) in
+    (f .ensures .0, f .ensures .1, put-all heldBytes _ r _ _ (s .pre .1) k i p)
 
 pub gather-spec : {M : Type 1} → statement M
 gather-spec =
     tie.close
     (tie.spec
-    Inv-loop
-    μ-loop
+    (λ c κs. search needs)
+    (λ c. search needs)
     (λ c. search needs)
     (λ c. search needs)
     (λ c. search needs)
@@ -26,6 +45,10 @@ gather-spec =
     (λ c. search needs)
     (λ c κs. search needs)
     (λ c. search needs)
+    returns
     (λ c. search needs)
     (λ c. search needs)
-    (λ c. search needs))
+    (λ c. search needs)
+    (λ c κs. search needs)
+    (λ c. search needs)
+    returns-2)

@@ -1,4 +1,4 @@
--- `stream::fill` reads into the rest of the buffer and ends: each turn leaves less of it. Assumes nothing.
+-- `fill` meets its contract: each turn leaves less of the buffer. Assumes nothing.
 use borrow.Author.Needs.{needs}
 use Prim.Native.Nat.{_≤_, _-_}
 use lib.ListN.{length}
@@ -12,6 +12,12 @@ Inv-loop fd buf₀ done₀ buf done = (length buf ≡ length buf₀) × (done �
 abbrev μ-loop : tie.MeasureT-loop
 μ-loop fd buf₀ done₀ buf done = length buf - done
 
+returns : tie.Need-returns Inv-loop μ-loop
+returns c = (search needs, (c .before .before .before .before .read .ensures .1 .0, λ h. search needs))
+
+returns-2 : tie.Need-returns-2 Inv-loop μ-loop
+returns-2 c = (search needs, search needs)
+
 pub fill-spec : {M : Type 1} → statement M
 fill-spec =
     tie.close
@@ -24,9 +30,9 @@ fill-spec =
     (λ c. search needs)
     (λ c κs. search needs)
     (λ c. search needs)
+    returns
     (λ c. search needs)
     (λ c. search needs)
     (λ c. search needs)
     (λ c. search needs)
-    (λ c. search needs)
-    (λ c. search needs))
+    returns-2)

@@ -1,4 +1,4 @@
--- `stream::read` answers a number of the buffer's bytes and ends: each try counts down. Assumes nothing.
+-- `read` meets its contract: each try counts down. Assumes nothing.
 use borrow.Author.Needs.{needs}
 use lib.ListN.{length}
 use mathlib.Core.Path.{_≡_}

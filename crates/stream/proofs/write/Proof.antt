@@ -1,5 +1,7 @@
--- `stream::write` writes from inside the text and ends: each try counts down. Assumes nothing.
+-- `write` meets its contract: each try counts down. Assumes nothing.
 use borrow.Author.Needs.{needs}
+use borrow.Author.Tests.{ltb-true}
+use native.Mathlib.Omega.{arith}
 use Prim.Native.Nat.{_≤_}
 use lib.ListN.{length}
 use Rattle.stream.proofs.write.Statement.{statement}
@@ -10,6 +12,9 @@ Inv-loop text done₀ tries₀ done tries = done ≤ length text
 
 abbrev μ-loop : tie.MeasureT-loop
 μ-loop text done₀ tries₀ done tries = tries
+
+returns : tie.Need-returns Inv-loop μ-loop
+returns c = (c .before .fatal .ensures .0, λ e. absurd (omega (arith, ltb-true)))
 
 pub write-spec : {M : Type 1} → statement M
 write-spec =
@@ -23,7 +28,7 @@ write-spec =
     (λ c. search needs)
     (λ c κs. search needs)
     (λ c κs. search needs)
-    (λ c. search needs)
+    returns
     (λ c. search needs)
     (λ c. search needs)
     (λ c. search needs)

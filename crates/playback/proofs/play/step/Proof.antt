@@ -1,16 +1,21 @@
--- `playback::play::step` keeps the shell ready: what was read lies in the piece. Assumes nothing.
+-- `playback::play::step` hands on what was read: it lies in the piece. Assumes nothing.
 use borrow.Author.Needs.{needs}
-use Prim.Native.Nat.{ℕ}
-use lib.Seq.{length-take-le}
 use mathlib.Core.Path.{sym}
-use Rattle.lines.proofs.Prefix.{at-most}
+use native.Mathlib.Omega.{arith}
+use lib.ListN.{length-take}
+use lib.Seq.{length-take-le}
 use Rattle.playback.proofs.play.step.Statement.{statement}
 use Rattle.playback.proofs.play.step.Tie as tie
 
-print-piece-requires : tie.Need-print-piece-requires
-print-piece-requires c κs =
-    let n : ℕ = c .before .before .before .before .taken .result in
-    ((search needs, search needs, at-most n _ (search needs)), (search needs, search needs))
+played-requires : tie.Need-played-requires
+played-requires c κs =
+    let start = c .before .before .before .before .before .before .before .before .before .before .before .before .before .before
+    .before in
+    let read = c .before .before .before .before .before .before .before .before .before .fill .ensures in
+    let n = c .before .before .before .before .before .taken .ensures in (
+      (start .pre .0 .0, search needs, simp length-take (omega (arith, n .1, read .0, start .pre .0 .2))),
+      (search needs, search needs),
+    )
 
 pub step-spec : {M : Type 1} → statement M
 step-spec =
@@ -21,9 +26,9 @@ step-spec =
     (λ c κs. search needs)
     (λ c. search needs)
     (λ c. sym (length-take-le _ _ (search needs)))
-    print-piece-requires
+    played-requires
     (λ c. search needs)
     (λ c. search needs)
     (λ c. search needs)
     (λ c. search needs)
-    (λ c. search needs))
+    (λ c. c .before .before .before .before .before .before .played .ensures))

@@ -1,0 +1,3 @@
+pub mod Spoken
+pub mod Given
+pub mod Answers
