@@ -163,6 +163,7 @@ impl Generator {
         if self.tags_of(id).len() > 12 || !self.finish_and_delete(id) {
             return;
         }
+        self.show_turns(25);
         let mut class = old.class;
         if self.random.chance(60) {
             self.gone.sqs.pop();
@@ -181,6 +182,7 @@ impl Generator {
         for _ in 0..self.random.within(2, 7) {
             self.start();
         }
+        self.show_turns(25);
     }
 
     /// Submits to this SQ, if it is there, and to others, above all to those of this class.

@@ -12,6 +12,16 @@ enum Remainder {
     NoLimit,
 }
 
+impl Remainder {
+    /// As a look has it: one without limit is the largest number.
+    fn number(self) -> u64 {
+        match self {
+            Remainder::Starts(left) => left,
+            Remainder::NoLimit => u64::MAX,
+        }
+    }
+}
+
 /// "A group has a turn holder and a remainder, at first holder 15, remainder 0."
 #[derive(Clone, Copy, PartialEq)]
 struct Turn {
@@ -91,6 +101,21 @@ impl Arbiter {
             (_, level) => self.levels[level as usize - 1],
         };
         (turn.holder, turn.remainder != Remainder::Starts(0))
+    }
+
+    /// All of it as numbers, in the order of the C header: mechanism, word, holder and remainder
+    /// "of all SQs under mechanism 0, of the urgent ones under mechanism 1", then holder, remainder
+    /// and credit of high, medium and low.
+    pub fn numbers(&self) -> Vec<u64> {
+        let group = if self.mechanism == 0 { self.all } else { self.urgent };
+        let turn = |turn: Turn| [turn.holder as u64, turn.remainder.number()];
+        let mut numbers = vec![self.mechanism, self.word];
+        numbers.extend(turn(group));
+        for (level, credit) in self.levels.into_iter().zip(self.credits) {
+            numbers.extend(turn(level));
+            numbers.push(credit);
+        }
+        numbers
     }
 
     /// "bits 2:0 give the burst as a power of two, 7 meaning no limit".

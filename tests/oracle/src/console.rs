@@ -32,7 +32,7 @@ const fn form(name: &'static str, limits: &'static [u64]) -> Form {
 /// The room for answer records; the words of the trace come after it.
 const REPLAY: Form = form("replay", &[2048]);
 
-pub const FORMS: [Form; 26] = [
+pub const FORMS: [Form; 27] = [
     form("controller", &[ANY, B32]),
     form("lend", &[MEMORY as u64]),
     Form { name: "poke", limits: &[ANY, B8], further: Some(B8) },
@@ -62,6 +62,7 @@ pub const FORMS: [Form; 26] = [
     form("show-sq", &[15]),
     form("show-cq", &[15]),
     form("show-tag", &[63]),
+    form("show-arbiter", &[]),
 ];
 
 impl Form {
@@ -286,6 +287,7 @@ impl Console {
             "show-sq" => self.show_sq(n[0]),
             "show-cq" => self.show_cq(n[0]),
             "show-tag" => self.show_tag(n[0]),
+            "show-arbiter" => self.controller.arbiter().numbers(),
             _ => self.entry(name, n)?,
         })
     }

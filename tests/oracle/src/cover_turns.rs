@@ -1,5 +1,6 @@
 //! What is reached of turns and credits where SQs are deleted: "Turn holders and remainders stay as
-//! numbers", and credits stay. Levels and their credits are mechanism 1's alone.
+//! numbers", and credits stay; and what a look shows of them. Levels and their credits are of
+//! mechanism 1 alone.
 
 use crate::arbiter::QUEUES;
 use crate::cover_deletes::Line;
@@ -8,7 +9,13 @@ use crate::model::Controller;
 use std::collections::{BTreeMap, BTreeSet};
 
 /// Every event that is counted.
-pub const EVENTS: [&str; 6] = [
+pub const EVENTS: [&str; 12] = [
+    "show-arbiter: a level has no credit",
+    "show-arbiter: a level's turn has some left",
+    "show-arbiter: a turn has no limit",
+    "show-arbiter: a turn of a deleted SQ",
+    "show-arbiter: after a refused start",
+    "show-arbiter: of all or of the urgent, some left",
     "start: level without credit waits, SQ deleted meanwhile",
     "start: turn goes on, holder created again, another waits",
     "start: turn goes on, holder had another class meanwhile",
@@ -29,11 +36,19 @@ pub struct Turns {
     elsewhere: BTreeSet<Turn>,
     /// The levels that had no credit when an SQ was deleted, and have none since.
     dry: [bool; 3],
+    /// Whether the line before was a start that was refused.
+    refused: bool,
 }
 
 impl Turns {
     /// The events of a line.
     pub fn events(&mut self, line: &Line) -> Vec<String> {
+        let events = self.call_events(line);
+        self.refused = line.name == "start" && !line.accepted();
+        events
+    }
+
+    fn call_events(&mut self, line: &Line) -> Vec<String> {
         match (line.name, line.asked) {
             ("controller", _) => *self = Turns::default(),
             ("delete-sq", [id]) if line.accepted() => self.sq_deleted(line.before, *id as usize),
@@ -41,9 +56,25 @@ impl Turns {
                 self.sq_created(*id as usize, *class)
             }
             ("start", _) if line.accepted() => return self.started(line),
+            ("show-arbiter", _) => return self.shown(line),
             _ => {}
         }
         Vec::new()
+    }
+
+    /// What there is to see of turns and credits.
+    fn shown(&self, line: &Line) -> Vec<String> {
+        let [_, _, _, left, levels @ ..] = line.answer else { return Vec::new() };
+        let level = |place: usize| levels.chunks(3).map(move |level| level[place]);
+        let gone = |(_, holder): &Turn| line.before.sqs[*holder].is_none();
+        reached([
+            ("show-arbiter: a level has no credit", level(2).any(|credit| credit == 0)),
+            ("show-arbiter: a level's turn has some left", level(1).any(|left| left > 0)),
+            ("show-arbiter: a turn has no limit", *left == u64::MAX),
+            ("show-arbiter: a turn of a deleted SQ", self.deleted.keys().any(gone)),
+            ("show-arbiter: after a refused start", self.refused),
+            ("show-arbiter: of all or of the urgent, some left", *left > 0 && *left < u64::MAX),
+        ])
     }
 
     fn sq_deleted(&mut self, before: &Controller, id: usize) {

@@ -30,6 +30,7 @@ mod ring;
 mod shrink;
 mod traced;
 mod traced_again;
+mod traced_arbiter;
 mod traced_deletes;
 mod traced_doorbells;
 mod traced_limit;

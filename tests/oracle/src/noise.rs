@@ -115,6 +115,7 @@ impl Generator {
             format!("show-sq {a}"),
             format!("show-cq {a}"),
             format!("show-tag {a}"),
+            "show-arbiter".to_string(),
             format!("check-tail 8 {b} {b} {next}"),
             format!("check-head 8 {b} {next} {next}"),
             format!("head {a} {b}"),

@@ -339,10 +339,18 @@ impl Generator {
     }
 
     pub fn show(&mut self) {
-        match self.random.below(3) {
+        match self.random.below(4) {
             0 => self.show_one("show-sq", 15),
             1 => self.show_one("show-cq", 15),
-            _ => self.show_one("show-tag", 63),
+            2 => self.show_one("show-tag", 63),
+            _ => self.show_turns(100),
+        }
+    }
+
+    /// Looks at turns and credits, in so many cases of a hundred.
+    pub fn show_turns(&mut self, percent: u64) {
+        if self.random.chance(percent) {
+            self.say("show-arbiter");
         }
     }
 

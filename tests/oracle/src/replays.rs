@@ -193,11 +193,11 @@ impl Generator {
         text
     }
 
-    /// Looks at a queue, a tag or the bytes of a completion.
+    /// Looks at a queue, a tag, turns and credits or the bytes of a completion.
     fn look(&mut self) {
         let sqs = self.unmarked_sqs();
         let cqs = self.cqs();
-        match self.random.below(4) {
+        match self.random.below(5) {
             0 => match self.random.choose(&sqs) {
                 Some(id) => drop(self.say(&format!("show-sq {id}"))),
                 None => self.show(),
@@ -210,6 +210,7 @@ impl Generator {
                 Some(id) => drop(self.say(&format!("show-cq {id}"))),
                 None => self.show(),
             },
+            3 => self.show_turns(100),
             _ => {
                 let cq = self.random.choose(&cqs);
                 self.show_last_posting(cq);

@@ -3,7 +3,7 @@
 //! requests, and so does `cargo test`.
 
 use crate::console::{answers, Console};
-use crate::{traced_again, traced_deletes, traced_doorbells, traced_limit};
+use crate::{traced_again, traced_arbiter, traced_deletes, traced_doorbells, traced_limit};
 use crate::{traced_numbers, traced_replay};
 
 /// A console that remembers every answer other than the expected one.
@@ -49,7 +49,7 @@ impl Trial {
 
     /// CQs 0 and 1 and the given SQs, each with its class and so many commands of FUSE 0
     /// with a CID each: "rings have 64 entries, SQ 0 uses CQ 0 and the others CQ 1".
-    fn queues(&mut self, sqs: &[(u64, u64, u64)]) {
+    pub fn queues(&mut self, sqs: &[(u64, u64, u64)]) {
         self.play("create-cq 0 64 0 => create-cq 0\n create-cq 1 64 4096 => create-cq 0");
         for (id, class, commands) in sqs {
             let base = 8192 + id * 4096;
@@ -241,6 +241,7 @@ pub fn faults() -> Vec<String> {
     let trials = TRIALS.into_iter().chain(traced_doorbells::TRIALS).chain(traced_replay::TRIALS);
     let trials = trials.chain(traced_numbers::TRIALS).chain(traced_limit::TRIALS);
     let trials = trials.chain(traced_deletes::TRIALS).chain(traced_again::TRIALS);
+    let trials = trials.chain(traced_arbiter::TRIALS);
     trials.flat_map(played).collect()
 }
 

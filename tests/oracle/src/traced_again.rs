@@ -6,7 +6,7 @@ use crate::traced::{Named, Trial};
 
 impl Trial {
     /// Starts once for each of these SQs, and holds the ids served against them.
-    fn serves(&mut self, row: &[u64]) {
+    pub fn serves(&mut self, row: &[u64]) {
         for id in row {
             let answer = self.ask("start");
             if !answer.starts_with(&format!("start 0 {id} ")) {
@@ -17,13 +17,13 @@ impl Trial {
 
     /// Deletes an SQ and creates it again with 8 entries on CQ 1 and in this class, where SQs have
     /// 4,096 bytes each, by their number.
-    fn again(&mut self, id: u64, class: u64) {
+    pub fn again(&mut self, id: u64, class: u64) {
         self.expect(&format!("delete-sq {id}"), "delete-sq 0");
         self.expect(&format!("create-sq {id} 8 {} 1 {class}", 4096 * id), "create-sq 0");
     }
 
     /// A controller with CQ 1 and with SQs 1, 2, 3 of these classes, at those places.
-    fn classes(&mut self, controller: &str, classes: [u64; 3]) {
+    pub fn classes(&mut self, controller: &str, classes: [u64; 3]) {
         self.expect(controller, "controller 0");
         self.expect("create-cq 1 64 0", "create-cq 0");
         for (id, class) in (1..).zip(classes) {

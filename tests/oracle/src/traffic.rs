@@ -196,7 +196,8 @@ impl Generator {
         let full = controller.free_tags().next().is_none();
         let sure = waits && !full && self.rings_are_lent();
         if sure || self.random.chance(if full { 40 } else { 15 }) {
-            self.say("start");
+            let done = self.say("start");
+            self.show_turns(if done { 3 } else { 12 });
         } else if !waits {
             self.submit();
         } else {
