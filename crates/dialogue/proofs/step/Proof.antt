@@ -29,10 +29,10 @@ step-spec =
     (tie.spec
     next-requires
     after-requires
-    (λ c. search needs)
-    (λ c. search needs)
-    (λ c. search needs)
-    (λ c. search needs)
-    (λ c. search needs)
-    (λ c. search needs)
+    (λ c. c .before .before .before .before .before .before .before .before .before .before .before .before .before .memory .given)
+    (λ c. c .before .before .before .before .before .before .before .before .before .before .before .chunk .given)
+    (λ c. c .before .before .before .before .before .before .before .before .before .line .given)
+    (λ c. c .before .before .before .before .before .before .before .out .given)
+    (λ c. c .before .before .before .before .before .first .given)
+    (λ c. c .before .before .before .second .given)
     returns)

@@ -70,13 +70,13 @@ answer-spec =
     tie.close
     (tie.spec
     say-bad-requires
-    (λ c. search needs)
+    (λ c. c .before .out .given)
     returns
     (λ c κs. search needs)
     returns-2
     execute-requires
-    (λ c. search needs)
-    (λ c. search needs)
-    (λ c. search needs)
-    (λ c. search needs)
+    (λ c. c .before .before .before .before .before .before .before .memory .given)
+    (λ c. c .before .before .before .before .before .out2 .given)
+    (λ c. c .before .before .before .first .given)
+    (λ c. c .before .second .given)
     returns-3)

@@ -215,22 +215,23 @@ execute-spec =
     (λ c. search needs)
     (λ c. search needs)
     say-bad-requires
-    (λ c. search needs)
+    (λ c. c .before .out .given)
     returns
     (λ c κs. search needs)
     array-share-prefix-largest
     slice-aggregate-read
     read-requires
     say-bad-requires-2
-    (λ c. search needs)
-    (λ c. search needs)
+    (λ c. c .before .out2 .given)
+    (λ c. c .before .before .before .before .before .before .before .first .given)
     returns-2
     sub-obey
     part-obey-start
     part-obey-end
     obey-requires
-    (λ c. search needs)
-    (λ c. search needs)
-    (λ c. search needs)
-    (λ c. search needs)
+    (λ c. c .before .before .before .before .before .before .before .memory .given)
+    (λ c. c .before .out3 .given)
+    (λ c. c .before .before .before .before .before .first2 .given ∙ c .before .before .before .before .before .before .before .before
+    .before .before .before .before .before .before .before .before .before .before .before .first .given)
+    (λ c. c .before .before .before .second .given)
     returns-3)

@@ -213,34 +213,34 @@ obey-spec =
     (λ c. search needs)
     slice-aggregate-obey-replay
     obey-replay-requires
-    (λ c. search needs)
-    (λ c. search needs)
+    (λ c. c .before .before .before .memory .given)
+    (λ c. c .before .out .given)
     returns
-    (λ c. search needs)
-    (λ c. search needs)
+    (λ c. c .before .before .before .memory2 .given)
+    (λ c. c .before .out2 .given)
     returns-2
-    (λ c. search needs)
-    (λ c. search needs)
+    (λ c. refl)
+    (λ c. c .before .out3 .given)
     returns-3
-    (λ c. search needs)
-    (λ c. search needs)
+    (λ c. refl)
+    (λ c. c .before .out4 .given)
     returns-4
-    (λ c. search needs)
-    (λ c. search needs)
+    (λ c. c .before .before .before .memory3 .given)
+    (λ c. c .before .out5 .given)
     returns-5
-    (λ c. search needs)
-    (λ c. search needs)
+    (λ c. c .before .before .before .memory4 .given)
+    (λ c. c .before .out6 .given)
     returns-6
-    (λ c. search needs)
-    (λ c. search needs)
+    (λ c. refl)
+    (λ c. c .before .out7 .given)
     returns-7
-    (λ c. search needs)
-    (λ c. search needs)
-    (λ c. search needs)
-    (λ c. search needs)
+    (λ c. refl)
+    (λ c. c .before .before .before .before .before .first .given)
+    (λ c. c .before .before .before .second .given)
+    (λ c. c .before .out8 .given)
     returns-8
-    (λ c. search needs)
-    (λ c. search needs)
-    (λ c. search needs)
-    (λ c. search needs)
+    (λ c. c .before .before .before .before .before .memory5 .given)
+    (λ c. refl)
+    (λ c. c .before .before .before .second2 .given)
+    (λ c. c .before .out9 .given)
     returns-9)
