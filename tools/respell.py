@@ -3,7 +3,7 @@
 
 usage: tools/respell.py            at the top of the repository, once, after the kit's port.py
 
-A name that specs/ or proofs/ declare loses its inner capitals (tailWrite is tail_write) and its dashes (head-moves is head_moves), in every
+A name that specs/ or proofs/ declare, or give a variable, loses its inner capitals (tailWrite is tail_write) and its dashes (head-moves is head_moves), in every
 .antt file, in the clauses of .rt files, and nowhere else. Names of src/, of the kit and of what Rattle generates stay. Where the new name is
 that of another name in one of the files that have the old one, the lemma ends in _lem. Two labels that the kit's script made are named for what
 they say.
@@ -42,7 +42,7 @@ def files(root, *ends):
 
 def own_proof(path):
     """A function's own proof file, whose names nobody else cites."""
-    return path.endswith(("/Proof.antt", "/Answers.antt", "/Invariants.antt"))
+    return path.endswith("/Proof.antt")
 
 
 def declared(paths):
@@ -118,7 +118,8 @@ def plan(root):
             kit |= {w.strip().split(" as ")[0] for w in m.group(2).split(",")}
     names = {}
     left = []
-    for name in sorted(declared(antt)):
+    local = {w for t in [*texts.values(), *sources.values()] for w in words(t) if CAMEL.match(w)}
+    for name in sorted(declared(antt) | local):
         if name in kit or MADE.match(name) or not (CAMEL.match(name) or DASHED.match(name)):
             continue
         names[name] = snake(name)

@@ -21,7 +21,7 @@ use Rattle.controller.specs.Create as create
 use Rattle.controller.specs.Doorbell as doorbell
 use Rattle.controller.specs.Verdict.{in_use, verdict_one, verdict_pair}
 use Rattle.controller.specs.Starting as starting
-use Rattle.controller.specs.Answers.{Answer, refused, done, startsIn}
+use Rattle.controller.specs.Answers.{Answer, refused, done, starts_in}
 use Rattle.controller.specs.Calls.{Call, create_cq, create_sq, tail_write, start}
 use Rattle.controller.specs.Steps.{answers}
 
@@ -45,7 +45,7 @@ zeros pages = replicate (4096 * pages) 0
 -- the SQs that commands were started from, in order
 abbrev pub started_from : List Answer → List ℕ
 started_from [] = []
-started_from (a ∷ rest) = map (λ s. s.sq) (startsIn a) ++ started_from rest
+started_from (a ∷ rest) = map (λ s. s.sq) (starts_in a) ++ started_from rest
 
 -- an SQ of size 4 whose head has passed n of the three commands submitted, and then a tail write
 abbrev pub tail_after : ℕ → ℕ → List Answer

@@ -15,7 +15,7 @@ use Rattle.controller.specs.State.{no_command, command_at, outstanding, fresh_co
 use Rattle.controller.specs.Valid.{Valid}
 use Rattle.controller.specs.Starting.{one_taken, pair_taken}
 use Rattle.controller.specs.Finishing.{unlinked, finished_controller}
-use Rattle.controller.specs.Answers.{FinishAnswer, finished, startsIn, Outcome}
+use Rattle.controller.specs.Answers.{FinishAnswer, finished, starts_in, Outcome}
 use Rattle.controller.specs.Calls.{Call, finish, perform, Reachable, fresh, after}
 use Rattle.controller.specs.Steps.{Given, Step, steps, final}
 use Rattle.controller.specs.Book.{update}
@@ -49,7 +49,7 @@ abbrev NotedIn : (ℕ → ℕ) → Controller → Type 0
 NotedIn f c = Noted f c.commands c.free
 
 noted_kept : (f : ℕ → ℕ) {c : Controller} {m : Memory} {call : Call} {o : Outcome} → Valid c → NotedIn f c → Commands c m call o
-    → NotedIn (foldl noted f (startsIn o.answer)) o.controller
+    → NotedIn (foldl noted f (starts_in o.answer)) o.controller
 unfolding one_taken pair_taken finished_controller
 noted_kept f v h (refused_leaves call n xs) = h
 noted_kept f v h (done_leaves call xs ys) = h
@@ -60,7 +60,7 @@ noted_kept f {c} v h (changes (takes_pair id a t u left s e w)) =
 noted_kept f {c} v h (changes (finishes tag status result r)) = finished_noted f c.commands c.free tag _ _ r.out h
 
 abbrev takes_notes : (ℕ → ℕ) → Step → ℕ → ℕ
-takes_notes f s = foldl noted f (startsIn s.outcome.answer)
+takes_notes f s = foldl noted f (starts_in s.outcome.answer)
 
 notes_kept : (gs : List Given) (f : ℕ → ℕ) {c : Controller} → Reachable c → NotedIn f c
     → NotedIn (foldl takes_notes f (steps c gs)) (final c gs)

@@ -27,11 +27,11 @@ pub data Answer : Type 0 where
   finished : FinishAnswer → Answer
 
 -- the first value for a refusal, else the second
-abbrev pub unlessRefused : {A : Type 0} → Answer → A → A → A
-unlessRefused (refused n) x y = x
-unlessRefused done x y = y
-unlessRefused (started s) x y = y
-unlessRefused (finished f) x y = y
+abbrev pub unless_refused : {A : Type 0} → Answer → A → A → A
+unless_refused (refused n) x y = x
+unless_refused done x y = y
+unless_refused (started s) x y = y
+unless_refused (finished f) x y = y
 
 -- the refusal number of an answer, and 0 for none
 abbrev pub number_of : Answer → ℕ
@@ -41,11 +41,11 @@ number_of (started s) = 0
 number_of (finished f) = 0
 
 -- what a start took, where the answer is that of a start
-abbrev pub startsIn : Answer → List StartAnswer
-startsIn (refused n) = []
-startsIn done = []
-startsIn (started s) = s ∷ []
-startsIn (finished f) = []
+abbrev pub starts_in : Answer → List StartAnswer
+starts_in (refused n) = []
+starts_in done = []
+starts_in (started s) = s ∷ []
+starts_in (finished f) = []
 
 pub record Outcome : Type 0 where
   pub answer : Answer

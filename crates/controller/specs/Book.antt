@@ -8,7 +8,7 @@ use Rattle.entry.specs.Submission.{submission_at}
 use Rattle.entry.specs.declared.completion.Completion.{Completion}
 use Rattle.ring.specs.Slots.{distance}
 use Rattle.controller.specs.Status.{failed_fused}
-use Rattle.controller.specs.Answers.{StartAnswer, Answer, unlessRefused, startsIn}
+use Rattle.controller.specs.Answers.{StartAnswer, Answer, unless_refused, starts_in}
 use Rattle.controller.specs.Calls.{Call, create_cq, create_sq, delete_cq, delete_sq, tail_write, head_write, start, finish}
 
 pub record BookSq : Type 0 where
@@ -131,9 +131,9 @@ entered b m (delete_cq id) a = with_cq b id no_cq
 entered b m (delete_sq id) a = with_sq b id no_sq
 entered b m (tail_write id v) a = b
 entered b m (head_write id v) a = with_cq b id (head_book (b.cqs id) v)
-entered b m start a = foldl (start_book m) b (startsIn a)
+entered b m start a = foldl (start_book m) b (starts_in a)
 entered b m (finish tag status result) a = finish_book b tag status result
 
 -- "Refusals .. : nothing."
 unfoldable pub enter : Book → Memory → Call → Answer → Book
-enter b m call a = unlessRefused a b (entered b m call a)
+enter b m call a = unless_refused a b (entered b m call a)

@@ -7,7 +7,7 @@ use Rattle.entry.specs.declared.completion.Completion.{Completion}
 use Rattle.ring.specs.Reader.{phase_in, found}
 use Rattle.controller.specs.Controller.{Controller}
 use Rattle.controller.specs.State.{cq_at, fresh_controller}
-use Rattle.controller.specs.Answers.{Answer, unlessRefused}
+use Rattle.controller.specs.Answers.{Answer, unless_refused}
 use Rattle.controller.specs.Calls.{Call, create_cq, create_sq, delete_cq, delete_sq, tail_write, head_write, start, finish}
 use Rattle.controller.specs.Calls.{result_of}
 use Rattle.controller.specs.Steps.{Step, Run, after_run, memory_after, all_steps, after_runs}
@@ -30,7 +30,7 @@ heads_in q vs start = vs
 heads_in q vs (finish tag status result) = vs
 
 abbrev pub heads_on : ℕ → List ℕ → Call → Answer → List ℕ
-heads_on q vs call a = unlessRefused a vs (heads_in q vs call)
+heads_on q vs call a = unless_refused a vs (heads_in q vs call)
 
 abbrev pub heads : ℕ → List ℕ → List Step → List ℕ
 heads q = foldl (λ vs s. heads_on q vs s.given.call s.outcome.answer)

@@ -5,7 +5,7 @@ use Rattle.rules.specs.Rules.{pick}
 use Rattle.controller.specs.Controller.{Controller}
 use Rattle.controller.specs.declared.Command.{Command}
 use Rattle.controller.specs.State.{command_at, with_commands, with_next_number}
-use Rattle.controller.specs.Answers.{StartAnswer, Answer, refused, done, started, finished, startsIn, Outcome, outcome}
+use Rattle.controller.specs.Answers.{StartAnswer, Answer, refused, done, started, finished, starts_in, Outcome, outcome}
 use Rattle.controller.specs.Steps.{Given, steps}
 use Rattle.controller.specs.Book.{update}
 
@@ -38,7 +38,7 @@ abbrev pub noted : (ℕ → ℕ) → StartAnswer → ℕ → ℕ
 noted f s = pick (eqb s.count 2) (update (update f s.first s.number) s.second (s.number + 1)) (update f s.first s.number)
 
 abbrev pub notes : Controller → List Given → ℕ → ℕ
-notes c gs = foldl (λ f s. foldl noted f (startsIn s.outcome.answer)) (λ t. 0) (steps c gs)
+notes c gs = foldl (λ f s. foldl noted f (starts_in s.outcome.answer)) (λ t. 0) (steps c gs)
 
 -- the numbers that finishes have answered, the last one first
 abbrev pub finished_in : Answer → List ℕ

@@ -5,7 +5,7 @@ ghost use Rattle.bits.specs.Tags.{given_back};
 ghost use Rattle.le.specs.Memory.{put};
 ghost use Rattle.entry.specs.Completion.{completion, completion_bytes};
 ghost use Rattle.controller.specs.Answers.{outcome};
-ghost use Rattle.controller.specs.Calls.{perform, of_finished, finish as finishCall};
+ghost use Rattle.controller.specs.Calls.{perform, of_finished, finish as finish_call};
 ghost use Rattle.controller.specs.Finishing.{full, call_rules, posting_rules, status_of, released, unlinked, posted};
 ghost use Rattle.controller.specs.State.{cq_at, with_cq, with_commands};
 ghost use Rattle.controller.specs.Valid.{RingOk};
@@ -152,7 +152,7 @@ pub fn finish(
 ) -> Finished
     requires { Reached state.old }
     ensures { Sound state.new × (outcome (of_finished result) (held state.new) memory.new
-        ≡ perform (held state.old) memory.old (finishCall tag status res)) }
+        ≡ perform (held state.old) memory.old (finish_call tag status res)) }
 {
     let refusal = call_refusal(state, memory.len() as u64, tag, status);
     if refusal != 0 {

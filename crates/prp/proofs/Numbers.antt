@@ -40,9 +40,9 @@ prp2_number page m prp1 prp2 (suc (suc (suc n))) h =
     ⊎_elim (λ (e : eqb (prp2 % 8) 0 ≡ true). rw (one, two, more, e) (after_number (prp1 ∷ []) 0 (list page m (k - 1) prp2)))
     (λ (e : eqb (prp2 % 8) 0 ≡ false). rw (one, two, more, e)) (bool_cases (eqb (prp2 % 8) 0))
 
-module _ (m : List ℕ) (prp1 prp2 len k addressRoom countRoom : ℕ) where
+module _ (m : List ℕ) (prp1 prp2 len k address_room count_room : ℕ) where
   abbrev walk : Walk
-  walk = page_walk m prp1 prp2 len k addressRoom countRoom
+  walk = page_walk m prp1 prp2 len k address_room count_room
 
   abbrev N : ℕ
   N = pages_touched (page_size k) prp1 len
@@ -51,14 +51,14 @@ module _ (m : List ℕ) (prp1 prp2 len k addressRoom countRoom : ℕ) where
   unfolding pages_touched
   some_pages = omega arith
 
-  passes : first_match (before_walk prp1 len k addressRoom countRoom) ≡ 0 → Unapplied (before_walk prp1 len k addressRoom countRoom)
+  passes : first_match (before_walk prp1 len k address_room count_room) ≡ 0 → Unapplied (before_walk prp1 len k address_room count_room)
   unfolding before_walk
-  passes z = passed (before_walk prp1 len k addressRoom countRoom) tt z
+  passes z = passed (before_walk prp1 len k address_room count_room) tt z
 
-  refusal_number : refusal_of (answer walk) ≡ walk_refusal m prp1 prp2 len k addressRoom countRoom
+  refusal_number : refusal_of (answer walk) ≡ walk_refusal m prp1 prp2 len k address_room count_room
   unfolding page_walk walk_refusal answer
   refusal_number =
-      let before = before_walk prp1 len k addressRoom countRoom in
+      let before = before_walk prp1 len k address_room count_room in
       let rules = prp2_rules (page_size k) m prp2 N in
       ⊎_elim
       (λ (z : first_match before ≡ 0).
@@ -70,7 +70,7 @@ module _ (m : List ℕ) (prp1 prp2 len k addressRoom countRoom : ℕ) where
       (same_or_not (first_match before) 0)
 
   -- a refusal has a number
-  above_zero : {x : ℕ} → Why m prp1 prp2 len k addressRoom countRoom x → x ≡ 0 → ⊥
+  above_zero : {x : ℕ} → Why m prp1 prp2 len k address_room count_room x → x ≡ 0 → ⊥
   above_zero (wrong_length h) z = absurd (omega arith)
   above_zero (wrong_size l h) z = absurd (omega arith)
   above_zero (wrong_prp1 l s h) z = absurd (omega arith)
@@ -89,31 +89,31 @@ module _ (m : List ℕ) (prp1 prp2 len k addressRoom countRoom : ℕ) where
       (lt_or_ge (page_size k) (prp2 % page_size k + 8 * (N - 1))))
       (λ (h : N ≤ 2). rw (le-ltb 2 N h) (c.unread h)) (lt_or_ge 2 N)
 
-  reads_number : reads_of (answer walk) ≡ walk_reads m prp1 prp2 len k addressRoom countRoom
+  reads_number : reads_of (answer walk) ≡ walk_reads m prp1 prp2 len k address_room count_room
   unfolding answer walk_reads
   reads_number = by_walk walk refl
     where
-      by_walk : (w : Walk) → walk ≡ w → reads_of (answer walk) ≡ walk_reads m prp1 prp2 len k addressRoom countRoom
+      by_walk : (w : Walk) → walk ≡ w → reads_of (answer walk) ≡ walk_reads m prp1 prp2 len k address_room count_room
       by_walk (refused x) e =
-          let n : walk_refusal m prp1 prp2 len k addressRoom countRoom ≡ x = sym refusal_number ∙ ap (λ w. refusal_of (answer w)) e in
-          let d = above_zero ((refused_exactly m prp1 prp2 len k addressRoom countRoom x).0 e) in
+          let n : walk_refusal m prp1 prp2 len k address_room count_room ≡ x = sym refusal_number ∙ ap (λ w. refusal_of (answer w)) e in
+          let d = above_zero ((refused_exactly m prp1 prp2 len k address_room count_room x).0 e) in
           ap (λ w. reads_of (answer w)) e ∙ sym (settle_refused _ (λ x. 0) _ (λ z. d (sym n ∙ z)))
       by_walk (found l reads) e =
-          let n : walk_refusal m prp1 prp2 len k addressRoom countRoom ≡ 0 = sym refusal_number ∙ ap (λ w. refusal_of (answer w)) e in
+          let n : walk_refusal m prp1 prp2 len k address_room count_room ≡ 0 = sym refusal_number ∙ ap (λ w. refusal_of (answer w)) e in
           ap (λ w. reads_of (answer w)) e
-          ∙ reads_complete (complete m prp1 prp2 len k addressRoom countRoom e).1
+          ∙ reads_complete (complete m prp1 prp2 len k address_room count_room e).1
           ∙ sym (settle_accepted _ (λ x. 0) _ n)
 
   -- an answer that is the walk's has these numbers
   abbrev pub InNumbers : Walked → Type 0
   InNumbers r =
-      (refusal_of r ≡ walk_refusal m prp1 prp2 len k addressRoom countRoom)
-      × (reads_of r ≡ walk_reads m prp1 prp2 len k addressRoom countRoom)
+      (refusal_of r ≡ walk_refusal m prp1 prp2 len k address_room count_room)
+      × (reads_of r ≡ walk_reads m prp1 prp2 len k address_room count_room)
 
   pub in_numbers : (r : Walked) → r ≡ answer walk → InNumbers r
   in_numbers r e = (ap refusal_of e ∙ refusal_number, ap reads_of e ∙ reads_number)
 
   -- and so has a refusal before the walk
-  pub in_numbers_before : (n : ℕ) → n ≡ first_match (before_walk prp1 len k addressRoom countRoom) → (n ≡ 0 → ⊥) → InNumbers (Refused n)
+  pub in_numbers_before : (n : ℕ) → n ≡ first_match (before_walk prp1 len k address_room count_room) → (n ≡ 0 → ⊥) → InNumbers (Refused n)
   unfolding answer page_walk
   in_numbers_before n is d = in_numbers (Refused n) (rw (← is, settle_refused n refused _ d))

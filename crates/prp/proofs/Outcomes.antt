@@ -25,12 +25,12 @@ abbrev pub RightLength : ℕ → Type 0
 RightLength len = (1 ≤ len) × (len ≤ 1048576)
 
 -- a transfer that nothing refuses before PRP2 is looked at
-pub record Accepted (prp1 len k addressRoom countRoom : ℕ) : Type 0 where
+pub record Accepted (prp1 len k address_room count_room : ℕ) : Type 0 where
   pub right : RightLength len
   pub size : k ≤ 4
   pub aligned : prp1 % 4 ≡ 0
-  pub addresses : 8 * pages_touched (page_size k) prp1 len ≤ addressRoom
-  pub counts : 4 * pages_touched (page_size k) prp1 len ≤ countRoom
+  pub addresses : 8 * pages_touched (page_size k) prp1 len ≤ address_room
+  pub counts : 4 * pages_touched (page_size k) prp1 len ≤ count_room
 
 either : {a b c d : ℕ} → (a < b) ⊎ (c < d) → (ltb a b || ltb c d) ≡ true
 either {a} {b} (inl h) = rw (lt-ltb a b h)
@@ -43,23 +43,23 @@ either {a} {b} {c} {d} (inr h) = rw (lt-ltb c d h) (or-true (ltb a b))
 neither : {a b c d : ℕ} → b ≤ a → d ≤ c → (ltb a b || ltb c d) ≡ false
 neither {a} {b} {c} {d} g h = rw (le-ltb a b g, le-ltb c d h)
 
-module _ (m : List ℕ) (prp1 prp2 len k addressRoom countRoom : ℕ) where
+module _ (m : List ℕ) (prp1 prp2 len k address_room count_room : ℕ) where
   -- "With N the pages touched"
   abbrev N : ℕ
   N = pages_touched (page_size k) prp1 len
 
   abbrev walk : Walk
-  walk = page_walk m prp1 prp2 len k addressRoom countRoom
+  walk = page_walk m prp1 prp2 len k address_room count_room
 
   abbrev listed : Walk
   listed = list (page_size k) m (N - 1) prp2
 
   abbrev Good : Type 0
-  Good = Accepted prp1 len k addressRoom countRoom
+  Good = Accepted prp1 len k address_room count_room
 
   -- "21 if either buffer has room for fewer; for the rig 8 and 4 bytes each"
   abbrev NoRoom : Type 0
-  NoRoom = (addressRoom < 8 * N) ⊎ (countRoom < 4 * N)
+  NoRoom = (address_room < 8 * N) ⊎ (count_room < 4 * N)
 
   -- why a walk is refused with a number
   pub data Why : ℕ → Type 0 where
@@ -153,7 +153,7 @@ module _ (m : List ℕ) (prp1 prp2 len k addressRoom countRoom : ℕ) where
       ⊎_elim (λ h. refuses (no_room (some, few) size aligned (inl h))) (λ addresses.
       ⊎_elim (λ h. refuses (no_room (some, few) size aligned (inr h))) (λ counts.
       by_pages (record { right = (some, few); size = size; aligned = aligned; addresses = addresses; counts = counts }) N refl)
-      (lt_or_ge countRoom (4 * N))) (lt_or_ge addressRoom (8 * N)))
+      (lt_or_ge count_room (4 * N))) (lt_or_ge address_room (8 * N)))
       (λ h. refuses (wrong_prp1 (some, few) size h)) (same_or_not (prp1 % 4) 0))
       (lt_or_ge 4 k)) (lt_or_ge 1048576 len)) (lt_or_ge len 1)
 

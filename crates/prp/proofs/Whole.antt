@@ -16,11 +16,11 @@ use Rattle.prp.specs.declared.Walked.TheVariants.{Pages, Refused}
 use Rattle.prp.proofs.Outcomes.{Accepted}
 
 pub accepted :
-    {prp1 len k addressRoom countRoom n : ℕ} → n ≡ first_match (before_walk prp1 len k addressRoom countRoom) → n ≡ 0 →
-    Accepted prp1 len k addressRoom countRoom
+    {prp1 len k address_room count_room n : ℕ} → n ≡ first_match (before_walk prp1 len k address_room count_room) → n ≡ 0 →
+    Accepted prp1 len k address_room count_room
 unfolding before_walk
-accepted {prp1} {len} {k} {addressRoom} {countRoom} is h =
-    let p = passed (before_walk prp1 len k addressRoom countRoom) tt (sym is ∙ h) in
+accepted {prp1} {len} {k} {address_room} {count_room} is h =
+    let p = passed (before_walk prp1 len k address_room count_room) tt (sym is ∙ h) in
     let room = or-false _ _ p.1.1.1.0 in
     record {
       right = range 1 longest len p.0;

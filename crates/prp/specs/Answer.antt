@@ -40,8 +40,8 @@ prp2_rules page m prp2 n =
 
 -- "page walk 20, 22, then 18 for PRP1, 21, then 18 before 19 at each later pointer or entry in reading order"
 unfoldable pub walk_refusal : List ℕ → ℕ → ℕ → ℕ → ℕ → ℕ → ℕ → ℕ
-walk_refusal m prp1 prp2 len k addressRoom countRoom =
-    first_match (before_walk prp1 len k addressRoom countRoom ++ prp2_rules (page_size k) m prp2 (pages_touched (page_size k) prp1 len))
+walk_refusal m prp1 prp2 len k address_room count_room =
+    first_match (before_walk prp1 len k address_room count_room ++ prp2_rules (page_size k) m prp2 (pages_touched (page_size k) prp1 len))
 
 -- "the number of list entries read, pointers included", for n pages: none up to two pages; else one for each page after the first, and
 -- one more, the pointer, where these do not fit into the rest of the list's first page. A second list page holds all that are left.
@@ -49,8 +49,8 @@ abbrev pub entries_read : ℕ → ℕ → ℕ → ℕ
 entries_read page prp2 n = pick (ltb 2 n) (n - 1 + pick (leb (prp2 % page + 8 * (n - 1)) page) 0 1) 0
 
 unfoldable pub walk_reads : List ℕ → ℕ → ℕ → ℕ → ℕ → ℕ → ℕ → ℕ
-walk_reads m prp1 prp2 len k addressRoom countRoom =
-    settle (walk_refusal m prp1 prp2 len k addressRoom countRoom) (λ x. 0)
+walk_reads m prp1 prp2 len k address_room count_room =
+    settle (walk_refusal m prp1 prp2 len k address_room count_room) (λ x. 0)
     (entries_read (page_size k) prp2 (pages_touched (page_size k) prp1 len))
 
 -- the addresses that a walk found: none beside a refusal, which "changes nothing"

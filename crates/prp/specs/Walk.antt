@@ -40,8 +40,8 @@ read_entry page m a next =
 unfoldable pub list : ℕ → List ℕ → ℕ → ℕ → Walk
 list page m zero a = found [] 0
 list page m (suc n) a =
-    let dataPage : ℕ → Walk = λ b. read_entry page m b (λ address. after (address ∷ []) 0 (list page m n (b + 8))) in
-    pick (last_of_page page a && ltb 1 (suc n)) (read_entry page m a dataPage) (dataPage a)
+    let data_page : ℕ → Walk = λ b. read_entry page m b (λ address. after (address ∷ []) 0 (list page m n (b + 8))) in
+    pick (last_of_page page a && ltb 1 (suc n)) (read_entry page m a data_page) (data_page a)
 
 -- "N = 1 ignores PRP2; N = 2 takes PRP2 as a page with offset 0; N of 3 or more takes it as a list address, a multiple of 8,
 -- any offset in its page."
@@ -54,16 +54,16 @@ data_pages page m prp1 prp2 n =
 -- The refusals before the walk: "page walk 20, 22, then 18 for PRP1, 21", the last "if either buffer has room for fewer"
 -- than N addresses of 8 bytes and N byte counts of 4.
 unfoldable pub before_walk : ℕ → ℕ → ℕ → ℕ → ℕ → Table
-before_walk prp1 len k addressRoom countRoom =
+before_walk prp1 len k address_room count_room =
     let n = pages_touched (page_size k) prp1 len in
     (outside_of 1 longest len, 20)
     ∷ (ltb 4 k, 22)
     ∷ (not (eqb (prp1 % 4) 0), 18)
-    ∷ (ltb addressRoom (8 * n) || ltb countRoom (4 * n), 21)
+    ∷ (ltb address_room (8 * n) || ltb count_room (4 * n), 21)
     ∷ []
 
 -- the whole walk, of len bytes with the page size number k, into buffers with so much room
 unfoldable pub page_walk : List ℕ → ℕ → ℕ → ℕ → ℕ → ℕ → ℕ → Walk
-page_walk m prp1 prp2 len k addressRoom countRoom =
-    settle (first_match (before_walk prp1 len k addressRoom countRoom)) refused
+page_walk m prp1 prp2 len k address_room count_room =
+    settle (first_match (before_walk prp1 len k address_room count_room)) refused
     (data_pages (page_size k) m prp1 prp2 (pages_touched (page_size k) prp1 len))

@@ -27,7 +27,7 @@ use Rattle.trace.specs.Trace.{begun}
 use Rattle.rig.specs.declared.state.SqNumbers.{SqNumbers}
 use Rattle.rig.specs.declared.state.CqNumbers.{CqNumbers}
 use Rattle.rig.specs.declared.state.CommandNumbers.{CommandNumbers}
-use Rattle.rig.specs.Answers.{submission_numbers, completion_numbers, waitingNumbers, pagesNumbers}
+use Rattle.rig.specs.Answers.{submission_numbers, completion_numbers, waiting_numbers, pages_numbers}
 use Rattle.rig.specs.Numbers.{start_numbers, finish_numbers, replay_numbers, sq_numbers, cq_numbers, command_numbers, no_sq_numbers}
 use Rattle.rig.specs.Numbers.{no_cq_numbers, no_command_numbers}
 
@@ -61,11 +61,11 @@ pub completion_zeros : (r : CompletionRead) → ((completion_numbers r).refusal 
 completion_zeros (C.Entry e phase) n = absurd (n refl)
 completion_zeros (C.Refused k) n = refl
 
-pub waiting_zeros : (r : Waiting) → ((waitingNumbers r).refusal ≡ 0 → ⊥) → (waitingNumbers r).count ≡ 0
+pub waiting_zeros : (r : Waiting) → ((waiting_numbers r).refusal ≡ 0 → ⊥) → (waiting_numbers r).count ≡ 0
 waiting_zeros (R.Count k) n = absurd (n refl)
 waiting_zeros (R.Refused k) n = refl
 
-pub pages_zeros : (w : Walked) → ((pagesNumbers w).refusal ≡ 0 → ⊥) → ((pagesNumbers w).pages ≡ 0) × ((pagesNumbers w).reads ≡ 0)
+pub pages_zeros : (w : Walked) → ((pages_numbers w).refusal ≡ 0 → ⊥) → ((pages_numbers w).pages ≡ 0) × ((pages_numbers w).reads ≡ 0)
 pages_zeros (W.Pages k reads) n = absurd (n refl)
 pages_zeros (W.Refused k) n = (refl, refl)
 

@@ -72,8 +72,8 @@ completion_numbers r =
       phase = a.2;
     }
 
-abbrev pub waitingNumbers : Waiting → WaitingNumbers
-waitingNumbers r = let a = waiting_answer r in record { refusal = a.0; count = a.1 }
+abbrev pub waiting_numbers : Waiting → WaitingNumbers
+waiting_numbers r = let a = waiting_answer r in record { refusal = a.0; count = a.1 }
 
-abbrev pub pagesNumbers : Walked → PagesNumbers
-pagesNumbers w = record { refusal = refusal_of w; pages = pages_of w; reads = reads_of w }
+abbrev pub pages_numbers : Walked → PagesNumbers
+pages_numbers w = record { refusal = refusal_of w; pages = pages_of w; reads = reads_of w }

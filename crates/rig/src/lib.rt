@@ -10,7 +10,7 @@ ghost use Rattle.ring.specs.Reader.{ring_read};
 ghost use Rattle.prp.specs.Pages.{page_size, byte_counts};
 ghost use Rattle.prp.specs.Walk.{page_walk};
 ghost use Rattle.prp.specs.Answer.{answer, addresses_of, numbers};
-ghost use Rattle.rig.specs.Answers.{submission_of, submission_numbers, completion_numbers, waitingNumbers, pagesNumbers};
+ghost use Rattle.rig.specs.Answers.{submission_of, submission_numbers, completion_numbers, waiting_numbers, pages_numbers};
 
 use entry::completion::CompletionRead;
 use entry::submission::{Submission, SubmissionRead};
@@ -205,7 +205,7 @@ pub extern "C" fn bellrafter_ring_read(
     head: u64,
     phase: u64,
 ) -> WaitingNumbers
-    ensures { result ≡ waitingNumbers (ring_read ring.now size head phase) }
+    ensures { result ≡ waiting_numbers (ring_read ring.now size head phase) }
 {
     match ring::reader::read(ring, size, head, phase) {
         Waiting::Count(count) => WaitingNumbers {
@@ -247,7 +247,7 @@ pub extern "C" fn bellrafter_page_walk(
     counts: &mut [u8],
 ) -> PagesNumbers
     ensures* result_value { do
-      ⌜ result ≡ pagesNumbers (answer
+      ⌜ result ≡ pages_numbers (answer
           (page_walk memory.now prp1 prp2 len page (← (⟦addresses.len()⟧).entry) (← (⟦counts.len()⟧).entry))) ⌝ }
     ensures* addresses_after { do
       ⌜ addresses.new ≡ put addresses.old 0 (numbers 8 (addresses_of

@@ -3,7 +3,7 @@ ghost use Rattle.std.specs.Prelude.{◌≡◌};
 ghost use Rattle.le.specs.Memory.{Memory};
 ghost use Rattle.controller.specs.Answers.{number_of};
 ghost use Rattle.controller.specs.Calls.{perform, create_cq, create_sq, delete_cq, delete_sq, tail_write, head_write};
-ghost use Rattle.controller.specs.Calls.{start as startCall, finish as finishCall};
+ghost use Rattle.controller.specs.Calls.{start as start_call, finish as finish_call};
 ghost use Rattle.controller.specs.State.{new_refusal, new_controller};
 ghost use Rattle.store.specs.Held.{held, Holds, Reached};
 ghost use Rattle.replay.specs.Replay.{replay};
@@ -179,7 +179,7 @@ pub extern "C" fn bellrafter_head_write(state: &mut [u64; WORDS], id: u64, value
 #[unsafe(no_mangle)]
 pub extern "C" fn bellrafter_start(state: &mut [u64; WORDS], memory: &[u8]) -> StartNumbers
     requires { Reached state.old }
-    ensures { let o = perform (held state.old) memory.now startCall in
+    ensures { let o = perform (held state.old) memory.now start_call in
         (result ≡ start_numbers o.answer) × Holds state.new o.controller }
 {
     match starter::start(state, memory) {
@@ -238,7 +238,7 @@ pub extern "C" fn bellrafter_finish(
     res: u32,
 ) -> FinishNumbers
     requires { Reached state.old }
-    ensures { let o = perform (held state.old) memory.old (finishCall tag status res) in
+    ensures { let o = perform (held state.old) memory.old (finish_call tag status res) in
         (result ≡ finish_numbers o.answer) × Holds state.new o.controller × (memory.new ≡ o.memory) }
 {
     match finisher::finish(state, memory, tag, status, res) {

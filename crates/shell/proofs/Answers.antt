@@ -24,39 +24,39 @@ use Rattle.shell.specs.Leaving.{Spoke, Leaves}
 -- ---- what a line comes to
 
 module _ (s : Console) (n : ℕ) (w : List ℕ) (ws : List (List ℕ)) where
-  pub no-command : named w ≡ N.Nothing → saying w n (bad, s) ≡ by_words s n (w ∷ ws)
+  pub no_command : named w ≡ N.Nothing → saying w n (bad, s) ≡ by_words s n (w ∷ ws)
   unfolding by_words asked
-  no-command e = rw e
+  no_command e = rw e
 
   module _ (k : Command) (e : named w ≡ N.Command k) where
-    pub bad-arguments : (arguments_in (form k).largest (form k).rest ws).good ≡ false → saying w n (bad, s) ≡ by_words s n (w ∷ ws)
+    pub bad_arguments : (arguments_in (form k).largest (form k).rest ws).good ≡ false → saying w n (bad, s) ≡ by_words s n (w ∷ ws)
     unfolding by_words asked
-    bad-arguments h = rw (e, h)
+    bad_arguments h = rw (e, h)
 
-    pub good-arguments : (arguments_in (form k).largest (form k).rest ws).good ≡ true → (ns bs : List ℕ)
+    pub good_arguments : (arguments_in (form k).largest (form k).rest ws).good ≡ true → (ns bs : List ℕ)
         → ns ≡ (arguments_in (form k).largest (form k).rest ws).numbers → bs ≡ (arguments_in (form k).largest (form k).rest ws).bytes
         → saying w n (obeyed s k ns bs) ≡ by_words s n (w ∷ ws)
     unfolding by_words asked
-    good-arguments h ns bs p q = rw (e, h, p, q)
+    good_arguments h ns bs p q = rw (e, h, p, q)
 
 module _ (s : Console) (n : ℕ) (line : List ℕ) where
   pub too_long : most_bytes < length line → saying [] n (bad, s) ≡ answered s n line
   unfolding answered
   too_long h = rw (lt-ltb most_bytes (length line) h)
 
-  pub by-words : length line ≤ most_bytes → (ws : List (List ℕ)) → words_of line ≡ ws → by_words s n ws ≡ answered s n line
+  pub by_words_lem : length line ≤ most_bytes → (ws : List (List ℕ)) → words_of line ≡ ws → by_words s n ws ≡ answered s n line
   unfolding answered
-  by-words h ws e = rw (le-ltb most_bytes (length line) h, e)
+  by_words_lem h ws e = rw (le-ltb most_bytes (length line) h, e)
 
 -- ---- what the code leaves
 
-pub leaves-as : {a b : Answered} {o o₁ : List ℕ} {r : code.Answered} {words bytes : List ℕ} → a ≡ b → Leaves a o o₁ r words bytes
+pub leaves_as : {a b : Answered} {o o₁ : List ℕ} {r : code.Answered} {words bytes : List ℕ} → a ≡ b → Leaves a o o₁ r words bytes
     → Leaves b o o₁ r words bytes
-leaves-as {o = o} {o₁ = o₁} {r = r} {words = words} {bytes = bytes} e l = subst (λ (x : Answered). Leaves x o o₁ r words bytes) e l
+leaves_as {o = o} {o₁ = o₁} {r = r} {words = words} {bytes = bytes} e l = subst (λ (x : Answered). Leaves x o o₁ r words bytes) e l
 
-pub spoke-leaves : (w : List ℕ) (n : ℕ) {a : Said × Console} {o o₁ : List ℕ} {r : code.Answered} {words bytes : List ℕ}
+pub spoke_leaves : (w : List ℕ) (n : ℕ) {a : Said × Console} {o o₁ : List ℕ} {r : code.Answered} {words bytes : List ℕ}
     → Spoke a w n o o₁ r words bytes → Leaves (saying w n a) o o₁ r words bytes
-spoke-leaves w n p =
+spoke_leaves w n p =
     record {
       text = p.printed.text;
       good = p.printed.good;
@@ -70,16 +70,16 @@ spoke-leaves w n p =
     }
 
 module _ (words : List ℕ) (m : Memory) (lent : ℕ) (h : Reached words) (i : lent ≤ memory_bytes) where
-  pub bad-leaves : (w : List ℕ) (n : ℕ) {o o₁ : List ℕ} {r : code.Answered} → Printed bad w n o o₁ lent r
+  pub bad_leaves : (w : List ℕ) (n : ℕ) {o o₁ : List ℕ} {r : code.Answered} → Printed bad w n o o₁ lent r
       → Leaves (saying w n (bad, console (held words) m lent)) o o₁ r words m
-  bad-leaves w n p =
-      spoke-leaves w n (record { printed = p; controller = refl; memory = refl; reached = h; inside = i })
+  bad_leaves w n p =
+      spoke_leaves w n (record { printed = p; controller = refl; memory = refl; reached = h; inside = i })
 
   -- a line with no word
-  pub nothing-leaves : (n : ℕ) (o : List ℕ)
+  pub nothing_leaves : (n : ℕ) (o : List ℕ)
       → Leaves (by_words (console (held words) m lent) n []) o o (record { length = 0; lent = lent; good = true; refusal = 0 }) words m
   unfolding by_words
-  nothing-leaves n o =
+  nothing_leaves n o =
       record {
         text = put_none o 0;
         good = refl;

@@ -1,7 +1,7 @@
 // Starting commands.
 ghost use Rattle.std.specs.Prelude.{◌≡◌};
 ghost use Rattle.controller.specs.Answers.{outcome};
-ghost use Rattle.controller.specs.Calls.{perform, of_started, start as startCall};
+ghost use Rattle.controller.specs.Calls.{perform, of_started, start as start_call};
 ghost use Rattle.store.specs.Held.{held, Sound, Reached};
 
 use crate::candidates::candidates_of;
@@ -21,7 +21,7 @@ mod verdict;
 pub fn start(state: &mut [u64; WORDS], memory: &[u8]) -> Started
     requires { Reached state.old }
     ensures { Sound state.new × (outcome (of_started result) (held state.new) memory.now
-        ≡ perform (held state.old) memory.now startCall) }
+        ≡ perform (held state.old) memory.now start_call) }
 {
     if rings_outside(state, memory.len() as u64) {
         return Started::Refused(5);

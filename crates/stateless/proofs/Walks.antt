@@ -149,10 +149,10 @@ module _ (m : Memory) (bytes : Bytes m) where
         (fits_pick (eqb (prp2 % 8) 0) _ (refused 18)
         (fits_after (prp1 ∷ []) 0 _ (one_below (256 ^ 8) prp1 low1) (fits_list page (n - 1) prp2)) tt))
 
-    fits_walk : (len k addressRoom countRoom : ℕ) → Fits (page_walk m prp1 prp2 len k addressRoom countRoom)
+    fits_walk : (len k address_room count_room : ℕ) → Fits (page_walk m prp1 prp2 len k address_room count_room)
     unfolding page_walk settle Fits
-    fits_walk len k addressRoom countRoom =
-        let x = first_match (before_walk prp1 len k addressRoom countRoom) in
+    fits_walk len k address_room count_room =
+        let x = first_match (before_walk prp1 len k address_room count_room) in
         let pages = data_pages (page_size k) m prp1 prp2 (pages_touched (page_size k) prp1 len) in
         fits_pick (eqb x 0) pages (refused x) (fits_pages (page_size k) (pages_touched (page_size k) prp1 len)) tt
 
@@ -179,9 +179,9 @@ read_back w old rest xs h =
 
 -- ---- the whole walk
 
-module _ (m : Memory) (prp1 prp2 len k addressRoom countRoom : ℕ) where
+module _ (m : Memory) (prp1 prp2 len k address_room count_room : ℕ) where
   abbrev walk : Walk
-  walk = page_walk m prp1 prp2 len k addressRoom countRoom
+  walk = page_walk m prp1 prp2 len k address_room count_room
 
   abbrev counts : List ℕ
   counts = byte_counts (page_size k) prp1 len (pages_of (answer walk))
@@ -194,7 +194,7 @@ module _ (m : Memory) (prp1 prp2 len k addressRoom countRoom : ℕ) where
       by : (w : Walk) → walk ≡ w → pages_of (answer w) ≤ most_pages
       by (refused x) e = omega arith
       by (found l reads) e =
-          let g = complete m prp1 prp2 len k addressRoom countRoom e in
+          let g = complete m prp1 prp2 len k address_room count_room e in
           let right = g.0.right in
           let same = by_offset (page_size k) prp1 len (page_low k) right.0 in
           omega (arith, g.1.many, same, touched_most (page_size k) prp1 len (page_low k) right.0 right.1)
@@ -202,7 +202,7 @@ module _ (m : Memory) (prp1 prp2 len k addressRoom countRoom : ℕ) where
   read_addresses : Bytes m → prp1 < 256 ^ 8 → prp2 < 256 ^ 8 → (old rest : List ℕ)
       → readings 8 0 (pages_of (answer walk)) (put old 0 (numbers 8 (addresses_of walk)) ++ rest) ≡ addresses_of walk
   unfolding answer addresses_of Fits
-  read_addresses bytes low1 low2 old rest = by walk (fits_walk m bytes prp1 prp2 low1 low2 len k addressRoom countRoom)
+  read_addresses bytes low1 low2 old rest = by walk (fits_walk m bytes prp1 prp2 low1 low2 len k address_room count_room)
     where
       by : (w : Walk) → Fits w → readings 8 0 (pages_of (answer w)) (put old 0 (numbers 8 (addresses_of w)) ++ rest) ≡ addresses_of w
       by (refused x) h = refl
@@ -217,7 +217,7 @@ module _ (m : Memory) (prp1 prp2 len k addressRoom countRoom : ℕ) where
       by (refused x) e = refl
       by (found l reads) e =
           let cs = byte_counts (page_size k) prp1 len (length l) in
-          let size = (complete m prp1 prp2 len k addressRoom countRoom e).0.size in
+          let size = (complete m prp1 prp2 len k address_room count_room e).0.size in
           let low : Below (256 ^ 4) cs =
           λ i. omega (arith, counts_within (page_size k) prp1 len (page_low k) (length l) i, page_high k size) in
           ap (λ (n : ℕ). readings 4 0 n (put old 0 (numbers 4 cs) ++ rest)) (sym (counts_length (page_size k) prp1 len (length l)))
@@ -234,7 +234,7 @@ module _ (m : Memory) (ns xs ys : List ℕ) (narrow : Narrow (form K.Walk).large
     (in_ys : walk_bytes ≤ length ys) where
   -- the walk that the line asks for, with so much room
   abbrev by_line : ℕ → ℕ → Walk
-  by_line addressRoom countRoom = page_walk m (nth ns 0) (nth ns 1) (nth ns 2) (nth ns 3) addressRoom countRoom
+  by_line address_room count_room = page_walk m (nth ns 0) (nth ns 1) (nth ns 2) (nth ns 3) address_room count_room
 
   -- as the borrow checker has the rooms
   abbrev parted : Walk

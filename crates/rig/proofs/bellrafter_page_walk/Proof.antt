@@ -1,6 +1,6 @@
 use borrow.Author.Rules.{rules}
 use mathlib.Core.Path.{sym, ap, ◌∙◌}
-use Rattle.rig.specs.Answers.{pagesNumbers}
+use Rattle.rig.specs.Answers.{pages_numbers}
 use Rattle.rig.proofs.bellrafter_page_walk.Statement.{statement}
 use Rattle.rig.proofs.bellrafter_page_walk.Tie as tie
 
@@ -8,13 +8,13 @@ returns : tie.Need-returns
 returns c =
     let w = c.before.before.before.before.before.before.before.walk.ensures in
     let told = c.before.pages.given.1 in
-    (ap pagesNumbers (sym told ∙ w.0), (w.1.0, rw told at w.1.1.0))
+    (ap pages_numbers (sym told ∙ w.0), (w.1.0, rw told at w.1.1.0))
 
 returns-2 : tie.Need-returns-2
 returns-2 c =
     let w = c.before.before.before.before.before.before.before.walk.ensures in
     let told = c.before.number.given.1 in
-    (ap pagesNumbers (sym told ∙ w.0), (w.1.0, rw told at w.1.1.0))
+    (ap pages_numbers (sym told ∙ w.0), (w.1.0, rw told at w.1.1.0))
 
 pub bellrafter-page-walk-spec : {M : Type 1} → statement M
 bellrafter-page-walk-spec =

@@ -10,7 +10,7 @@ use Rattle.store.specs.Held.{held}
 use Rattle.parse.specs.Line.{most_bytes}
 use Rattle.parse.proofs.Lines.{words_over, words_next}
 use Rattle.language.specs.State.{console}
-use Rattle.shell.proofs.Answers.{too_long, by-words, leaves-as, bad-leaves, nothing-leaves}
+use Rattle.shell.proofs.Answers.{too_long, by_words_lem, leaves_as, bad_leaves, nothing_leaves}
 use Rattle.shell.proofs.answer.Statement.{statement}
 use Rattle.shell.proofs.answer.Tie as tie
 
@@ -22,8 +22,8 @@ returns c =
     let s = c.before.before.before.before.before.before.before.before.before.before in
     let a = s.args in
     let h : most_bytes < length a.line.now = omega arith in
-    leaves-as (too_long (console (held a.state.now) a.memory.now a.lent) a.number a.line.now h)
-    (bad-leaves a.state.now a.memory.now a.lent s.requires.0.reached s.requires.0.inside [] a.number (c.before.before.say-bad.ensures []))
+    leaves_as (too_long (console (held a.state.now) a.memory.now a.lent) a.number a.line.now h)
+    (bad_leaves a.state.now a.memory.now a.lent s.requires.0.reached s.requires.0.inside [] a.number (c.before.before.say-bad.ensures []))
 
 returns-2 : tie.Need-returns-2
 returns-2 c =
@@ -31,8 +31,8 @@ returns-2 c =
     let a = s.args in
     let h : length a.line.now ≤ most_bytes = omega arith in
     let e = words_over c.before.next_word.ensures c.if2.true in
-    leaves-as (by-words (console (held a.state.now) a.memory.now a.lent) a.number a.line.now h [] e)
-    (nothing-leaves a.state.now a.memory.now a.lent s.requires.0.reached s.requires.0.inside a.number a.out.now)
+    leaves_as (by_words_lem (console (held a.state.now) a.memory.now a.lent) a.number a.line.now h [] e)
+    (nothing_leaves a.state.now a.memory.now a.lent s.requires.0.reached s.requires.0.inside a.number a.out.now)
 
 execute-requires : tie.Need-execute-requires
 execute-requires c κs =
@@ -56,7 +56,7 @@ returns-3 c =
       c.before.before.before.before.before.before.before.before.before.before.before.before.before.before.before.before.before.if1.false,
     ) in
     let e = words_next c.before.before.before.before.before.before.before.before.before.before.before.before.before.before.before.before.next_word.ensures c.before.before.before.before.before.before.before.before.before.before.before.before.before.before.before.if2.false in
-    leaves-as (by-words (console (held a.state.now) a.memory.now a.lent) a.number a.line.now h _ e) c.before.before.before.before.before.before.before.before.execute.ensures
+    leaves_as (by_words_lem (console (held a.state.now) a.memory.now a.lent) a.number a.line.now h _ e) c.before.before.before.before.before.before.before.before.execute.ensures
 
 pub answer-spec : {M : Type 1} → statement M
 answer-spec =

@@ -15,7 +15,7 @@ use Rattle.print.proofs.Puts.{put_length}
 use Rattle.language.specs.State.{console}
 use Rattle.stateless.specs.Leaving.{numbers_most}
 use Rattle.shell.proofs.Given.{numbers_are, bytes_are, bytes_inside, fitting}
-use Rattle.shell.proofs.Answers.{no-command, bad-arguments, good-arguments, leaves-as, spoke-leaves, bad-leaves}
+use Rattle.shell.proofs.Answers.{no_command, bad_arguments, good_arguments, leaves_as, spoke_leaves, bad_leaves}
 use Rattle.shell.proofs.execute.Statement.{statement}
 use Rattle.shell.proofs.execute.Tie as tie
 
@@ -50,9 +50,9 @@ returns c =
     let s = c.before.before.before.before.before.before.before.before.before.before.before.before.before in
     let a = s.args in
     let w = take (a.end - a.start) (drop a.start a.line.now) in
-    leaves-as (no-command (console (held a.state.now) a.memory.now a.lent) a.number w (words_of (drop a.end a.line.now))
+    leaves_as (no_command (console (held a.state.now) a.memory.now a.lent) a.number w (words_of (drop a.end a.line.now))
     (sym c.before.before.before.before.before.before.command-of.ensures ∙ c.before.before.before.before.enum_told.given.1))
-    (bad-leaves a.state.now a.memory.now a.lent s.requires.0.0.reached s.requires.0.0.inside w a.number (c.before.before.say-bad.ensures w))
+    (bad_leaves a.state.now a.memory.now a.lent s.requires.0.0.reached s.requires.0.0.inside w a.number (c.before.before.say-bad.ensures w))
 
 array-share-prefix-largest : tie.Need-array-share-prefix-largest
 array-share-prefix-largest c = largest-fits c.before
@@ -87,9 +87,9 @@ returns-2 c =
       c.before.before.before.before.before.before.before.before.before.before.before.before.before.form_of.ensures.largest,
       c.before.before.before.before.before.before.before.before.before.before.before.before.before.form_of.ensures.rest,
     ) at c.before.before.before.before.before.before.before.before.read.ensures in
-    leaves-as (bad-arguments (console (held a.state.now) a.memory.now a.lent) a.number w (words_of (drop a.end a.line.now))
+    leaves_as (bad_arguments (console (held a.state.now) a.memory.now a.lent) a.number w (words_of (drop a.end a.line.now))
     c.before.before.before.before.before.before.before.before.before.before.before.before.before.before.before.command.given.0.0 (sym c.before.before.before.before.before.before.before.before.before.before.before.before.before.before.before.before.before.command-of.ensures ∙ c.before.before.before.before.before.before.before.before.before.before.before.before.before.before.before.command.given.1) (sym x.judged ∙ not-true _ c.before.before.before.before.if1.true))
-    (bad-leaves a.state.now a.memory.now a.lent s.pre.0.0.reached s.pre.0.0.inside w a.number (c.before.before.say-bad2.ensures w))
+    (bad_leaves a.state.now a.memory.now a.lent s.pre.0.0.reached s.pre.0.0.inside w a.number (c.before.before.say-bad2.ensures w))
 
 sub-obey : tie.Need-overflow-sub-obey
 sub-obey c = omega (
@@ -155,9 +155,9 @@ returns-3 c =
     let ws = words_of (drop a.end a.line.now) in
     let g = not-false _ c.before.before.before.before.before.before.before.before.before.before.before.before.before.before.before.before.if1.false in
     let w = take (a.end - a.start) (drop a.start a.line.now) in
-    leaves-as (good-arguments (console (held a.state.now) a.memory.now a.lent) a.number w ws k
+    leaves_as (good_arguments (console (held a.state.now) a.memory.now a.lent) a.number w ws k
     (sym c.before.before.before.before.before.before.before.before.before.before.before.before.before.before.before.before.before.before.before.before.before.before.before.before.before.before.before.before.before.command-of.ensures ∙ c.before.before.before.before.before.before.before.before.before.before.before.before.before.before.before.before.before.before.before.before.before.before.before.before.before.before.before.command.given.1) (sym x.judged ∙ g) _ _ (numbers_are k ws x g (words-fit c.before.before.before.before.before.before.before.before.before.before.before.before.before.before.before.before.before.before.before.before.before.before) (bytes_fit s))
-    (bytes_are k ws x g (words-fit c.before.before.before.before.before.before.before.before.before.before.before.before.before.before.before.before.before.before.before.before.before.before) (bytes_fit s))) (spoke-leaves w a.number c.before.before.before.before.before.before.before.before.obey.ensures)
+    (bytes_are k ws x g (words-fit c.before.before.before.before.before.before.before.before.before.before.before.before.before.before.before.before.before.before.before.before.before.before) (bytes_fit s))) (spoke_leaves w a.number c.before.before.before.before.before.before.before.before.obey.ensures)
 
 pub execute-spec : {M : Type 1} → statement M
 execute-spec =

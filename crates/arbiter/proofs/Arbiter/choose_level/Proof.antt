@@ -6,12 +6,12 @@ use Rattle.arbiter.proofs.Arbiter.choose_level.Statement.{statement}
 use Rattle.arbiter.proofs.Arbiter.choose_level.Tie as tie
 
 -- a level that was passed is idle
-highIdle : (c : tie.After-enum-told) → let s = c.before.before.before.before.before in High s.args.self s.args.c Idle
-highIdle c = level_gave _ _ _ c.before.before.before.burst.ensures.0 c.enum_told.given.1 c.before.before.turn.ensures.0
+high_idle : (c : tie.After-enum-told) → let s = c.before.before.before.before.before in High s.args.self s.args.c Idle
+high_idle c = level_gave _ _ _ c.before.before.before.burst.ensures.0 c.enum_told.given.1 c.before.before.turn.ensures.0
 
-mediumIdle : (c : tie.After-enum-told2)
+medium_idle : (c : tie.After-enum-told2)
     → let s = c.before.before.before.before.before.before.before.before.before.before in Medium s.args.self s.args.c Idle
-mediumIdle c =
+medium_idle c =
     level_gave _ _ _ c.before.before.before.burst2.ensures.0 c.enum-told2.given.1 c.before.before.turn2.ensures.0
 
 returns : tie.Need-returns
@@ -22,21 +22,21 @@ returns c =
 
 returns-2 : tie.Need-returns-2
 returns-2 c =
-    level_medium _ _ (highIdle c.before.before.before.before.before.before)
+    level_medium _ _ (high_idle c.before.before.before.before.before.before)
     (level_gave _ _ _ c.before.before.before.before.burst2.ensures.0 c.before.id2.given.1
     c.before.before.before.turn2.ensures.0)
 
 returns-3 : tie.Need-returns-3
 returns-3 c =
     let m = c.before.before.before.before.before.before in
-    level_low _ _ (highIdle m.before.before.before.before.before) (mediumIdle m)
+    level_low _ _ (high_idle m.before.before.before.before.before) (medium_idle m)
     (level_gave _ _ _ c.before.before.before.before.burst3.ensures.0 c.before.id3.given.1
     c.before.before.before.turn3.ensures.0)
 
 returns-4 : tie.Need-returns-4
 returns-4 c =
     let m = c.before.before.before.before.before in
-    level_none _ _ (highIdle m.before.before.before.before.before) (mediumIdle m)
+    level_none _ _ (high_idle m.before.before.before.before.before) (medium_idle m)
     (level_gave _ _ _ c.before.before.before.burst3.ensures.0 c.enum-told3.given.1 c.before.before.turn3.ensures.0)
 
 pub choose-level-spec : {M : Type 1} → statement M

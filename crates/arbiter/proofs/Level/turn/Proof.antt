@@ -16,25 +16,25 @@ returns c =
     level_answered _ c.before.before.ranges.mask.fits _ _
     (level_idle _ _ _ (sym c.before.is-ready.ensures ∙ not_yes _ c.if1.true))
 
-isReady : (c : tie.Else1) → ready c.before.before.args.self (is_set c.before.before.args.mask) ≡ true
-isReady c = sym c.before.is-ready.ensures ∙ not_no _ c.if1.false
+is_ready : (c : tie.Else1) → ready c.before.before.args.self (is_set c.before.before.args.mask) ≡ true
+is_ready c = sym c.before.is-ready.ensures ∙ not_no _ c.if1.false
 
 returns-2 : tie.Need-returns-2
 returns-2 c =
     let e = c.before.before.before.before.before in
     level_answered _ e.before.before.ranges.mask.fits _ _
     (ap (charged _) (sym c.enum_told.given.1 ∙ c.before.before.turn.ensures.0)
-    ∙ level_turn_lem _ _ _ c.before.before.before.level-full.ensures.0 (isReady e))
+    ∙ level_turn_lem _ _ _ c.before.before.before.level-full.ensures.0 (is_ready e))
 
 sub-t12 : tie.Need-overflow-sub-t12
-sub-t12 c = omega (arith, (ready_parts _ _ (isReady c.before.before.before.before.before.before)).1)
+sub-t12 c = omega (arith, (ready_parts _ _ (is_ready c.before.before.before.before.before.before)).1)
 
 returns-3 : tie.Need-returns-3
 returns-3 c =
     let e = c.before.before.before.before.before.before in
     level_answered _ e.before.before.ranges.mask.fits _ _
     (ap (charged _) (sym c.before.id.given.1 ∙ c.before.before.before.turn.ensures.0)
-    ∙ level_turn_lem _ _ _ c.before.before.before.before.level-full.ensures.0 (isReady e))
+    ∙ level_turn_lem _ _ _ c.before.before.before.before.level-full.ensures.0 (is_ready e))
 
 pub turn_spec : {M : Type 1} → statement M
 turn_spec =
