@@ -1,6 +1,8 @@
 // Arbitration: which submission queue is served next. Candidates are 16-bit masks, bit n for queue n. Candidate, turn holder and
 // remainder are document 01's terms.
 // Tests are joined by `&` and `|`, which do not branch.
+#![tactic(auto)]
+
 ghost use Rattle.std.specs.Prelude.{◌≡◌, false, ◌%◌, ◌<◌, eqb};
 ghost use Rattle.bits.specs.Bits.{is_set};
 ghost use Rattle.arbiter.specs.Word.{burst_of, weight_at};
@@ -10,28 +12,28 @@ ghost use Rattle.arbiter.specs.Arbiter.{by_group, by_level, by_weight, choice, n
 ghost use Rattle.arbiter.specs.Arbiter.{group_refusal, level_refusal, chosen_answer, choice_refusal};
 
 // What is left of a turn.
-#[derive(Drop)]
+#[derive(Clone, Copy)]
 pub enum Remainder {
     Left(u32),
     NoLimit,
 }
 
 // Queues that take turns: who holds the turn, and what is left of it.
-#[derive(Drop)]
+#[derive(Clone, Copy)]
 pub struct Group {
     pub holder: u32,
     pub remainder: Remainder,
 }
 
 // A priority level of the weighted mechanism: a group that pays for its turns.
-#[derive(Drop)]
+#[derive(Clone, Copy)]
 pub struct Level {
     pub group: Group,
     pub credit: u32,
 }
 
 // Mechanism 0, round robin, or 1, weighted with urgent; its feature word; and whose turn it is.
-#[derive(Drop)]
+#[derive(Clone, Copy)]
 pub struct Arbiter {
     pub weighted: bool,
     pub word: u32,
@@ -43,7 +45,7 @@ pub struct Arbiter {
 }
 
 // The candidates among all queues, and among those of each class.
-#[derive(Drop)]
+#[derive(Clone, Copy)]
 pub struct Candidates {
     pub all: u16,
     pub urgent: u16,
@@ -53,27 +55,27 @@ pub struct Candidates {
 }
 
 // The queue that is served, with the arbiter that is left. Where it is nobody, the arbiter stays as it was.
-#[derive(Drop)]
+#[derive(Clone, Copy)]
 pub enum Chosen {
     Queue(u32, Arbiter),
     Nobody,
 }
 
 // The queue that takes the turn.
-#[derive(Drop)]
+#[derive(Clone, Copy)]
 enum Next {
     Id(u32),
     Nobody,
 }
 
 // What a turn of a group, or of a level, comes to: the queue that is served, with what is left of the group or level.
-#[derive(Drop)]
+#[derive(Clone, Copy)]
 enum Turn {
     Served(u32, Group),
     Idle,
 }
 
-#[derive(Drop)]
+#[derive(Clone, Copy)]
 enum LevelTurn {
     Served(u32, Level),
     Idle,

@@ -1,4 +1,6 @@
 // The bits of a mask, and the mask of free tags: bit n is set where tag n is free.
+#![tactic(auto)]
+
 ghost use Rattle.std.specs.Prelude.{◌≡◌, true, ◌<◌};
 ghost use Rattle.bits.specs.Bits.{is_set};
 ghost use Rattle.bits.specs.Tags.{is_free, without, taken_one, taken_two, given_back, one_answer, two_answer, tag_refusal};
@@ -29,7 +31,7 @@ fn clear(mask: u64, tag: u32) -> u64
 }
 
 // The lowest free tag, and the mask without it.
-#[derive(Drop)]
+#[derive(Clone, Copy)]
 pub enum TakenOne {
     Tag(u32, u64),
     NoneFree,
@@ -47,7 +49,7 @@ pub fn take_one(mask: u64) -> TakenOne
 }
 
 // The two lowest free tags, the lower first, and the mask without them.
-#[derive(Drop)]
+#[derive(Clone, Copy)]
 pub enum TakenTwo {
     Tags(u32, u32, u64),
     TooFew,

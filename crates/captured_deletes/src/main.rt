@@ -3,6 +3,8 @@
 // with unstarted or unread entries, and most ids come again, with rings of other sizes at other places. The answers that it is held
 // to are from QEMU's own trace and the bytes of its rings. A deletion stands where QEMU ended it. QEMU does not refuse one while
 // commands are outstanding (33) but ends and posts these first, so that no answer here is 33.
+#![tactic(auto)]
+
 fn main() {
     dialogue::run();
 }

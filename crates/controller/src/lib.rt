@@ -1,7 +1,8 @@
 // The parts of a controller's state, and the answers of a start and of a finish.
+#![tactic(auto)]
 
 // A ring of entries in memory; `exists` is false where there is none, and every number is then 0.
-#[derive(Drop)]
+#[derive(Clone, Copy)]
 pub struct Ring {
     pub base: u64,
     pub size: u16,
@@ -12,7 +13,7 @@ pub struct Ring {
 
 // `marked` is document 01's term: a tail value was refused with 10, and the queue takes no more tail writes and starts no more
 // commands. `cq` is the completion queue that it posts to.
-#[derive(Drop)]
+#[derive(Clone, Copy)]
 pub struct SubmissionQueue {
     pub ring: Ring,
     pub marked: bool,
@@ -21,7 +22,7 @@ pub struct SubmissionQueue {
 }
 
 // `phase` is the phase tag of the next posting.
-#[derive(Drop)]
+#[derive(Clone, Copy)]
 pub struct CompletionQueue {
     pub ring: Ring,
     pub phase: u8,
@@ -30,7 +31,7 @@ pub struct CompletionQueue {
 // A command that was started. `verdict` is document 01's term: the status that the start has decided on and the finish posts, and 0
 // where none is. `first` is its first half's tag plus 1 while that is outstanding, `second` its second half's tag plus 1; 0 is none.
 // `number` is its start number: how many commands the controller had taken before it.
-#[derive(Drop)]
+#[derive(Clone, Copy)]
 pub struct Command {
     pub sq: u8,
     pub cid: u16,
@@ -41,7 +42,7 @@ pub struct Command {
 }
 
 // What a start takes: one command, or a pair. `number` is the start number of the first.
-#[derive(Drop)]
+#[derive(Clone, Copy)]
 pub enum Started {
     One {
         sq: u8,
@@ -62,7 +63,7 @@ pub enum Started {
 }
 
 // The slot that a finish posts to, and the start number of the command that it posts.
-#[derive(Drop)]
+#[derive(Clone, Copy)]
 pub enum Finished {
     Slot { slot: u16, number: u64 },
     Refused(u64),

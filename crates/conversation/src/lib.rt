@@ -1,4 +1,6 @@
 // A conversation in the console's language: the lines of a file, each with its number, and their answers, shown in a form.
+#![tactic(auto)]
+
 ghost use Rattle.std.specs.Prelude.{[], ◌≡◌, ◌+◌, ◌≤◌, length};
 ghost use Rattle.store.specs.Held.{held};
 ghost use Rattle.lines.specs.Sizes.{chunk_bytes, held_bytes};
@@ -22,7 +24,7 @@ pub const OUT_BYTES: usize = 65536;
 pub const ROOM_BYTES: usize = ANSWER_BYTES + HELD_BYTES + 20;
 
 // How many bytes of the memory are lent, and where the lines are read.
-#[derive(Drop)]
+#[derive(Clone, Copy)]
 pub struct Conversation {
     pub lent: usize,
     pub lines: Lines,
@@ -30,7 +32,7 @@ pub struct Conversation {
 
 // The place after a line's answer, and how many bytes of the memory are lent afterwards; whether the line was good, and the number by which
 // a change that it asked for was refused, 0 for none.
-#[derive(Drop)]
+#[derive(Clone, Copy)]
 pub struct Shown {
     pub end: usize,
     pub lent: usize,
@@ -40,7 +42,7 @@ pub struct Shown {
 
 // The conversation after a step, what the step found, and the place after what it put. Of a line that ended: its length, whether it was
 // good, and the number by which a change that it asked for was refused, 0 for none.
-#[derive(Drop)]
+#[derive(Clone, Copy)]
 pub struct Step {
     pub conversation: Conversation,
     pub found: Found,

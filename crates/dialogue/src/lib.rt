@@ -1,4 +1,6 @@
 // A conversation in the console's language: lines are read from standard input, and the answers written to standard output.
+#![tactic(auto)]
+
 ghost use Rattle.std.specs.Prelude.{◌≡◌, ◌+◌, ◌≤◌, length};
 ghost use Rattle.store.specs.Held.{Reached};
 ghost use Rattle.shell.specs.Leaving.{Working};
@@ -15,7 +17,7 @@ use store::{Controller, WORDS};
 
 // Of how many lines the answers are written out, and how many bytes of answers are not yet; whether the conversation goes on,
 // and the form of its answers.
-#[derive(Drop)]
+#[derive(Clone, Copy)]
 struct Dialogue {
     conversation: Conversation,
     answered: u64,

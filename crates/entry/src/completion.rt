@@ -5,7 +5,7 @@ ghost use Rattle.entry.specs.Completion.{completion, completion_bytes, write_ref
 ghost use Rattle.entry.specs.Completion.{completion_answer, read_refusal, completion_read};
 
 // What a completion tells of its command. The phase tag beside it in an entry is the ring's.
-#[derive(Drop)]
+#[derive(Clone, Copy)]
 pub struct Completion {
     pub result: u32,
     pub sqhd: u16,
@@ -15,7 +15,7 @@ pub struct Completion {
 }
 
 // A completion with its phase tag, or the refusal number.
-#[derive(Drop)]
+#[derive(Clone, Copy)]
 pub enum CompletionRead {
     Entry(Completion, u8),
     Refused(u64),

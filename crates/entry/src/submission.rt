@@ -6,7 +6,7 @@ ghost use Rattle.le.specs.Memory.{put};
 ghost use Rattle.entry.specs.Submission.{submission_bytes, write_refusal, written, submission_answer, read_refusal, submission_read};
 
 // The fields of an entry. `cdw12_upper` is the upper half of CDW12, bytes 50 to 51; NLB is the lower.
-#[derive(Drop)]
+#[derive(Clone, Copy)]
 pub struct Submission {
     pub opc: u8,
     pub fuse: u64,
@@ -25,7 +25,7 @@ pub struct Submission {
 }
 
 // The entry that was read, or the refusal number.
-#[derive(Drop)]
+#[derive(Clone, Copy)]
 pub enum SubmissionRead {
     Entry(Submission),
     Refused(u64),

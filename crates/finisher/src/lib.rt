@@ -1,4 +1,6 @@
 // Finishing commands.
+#![tactic(auto)]
+
 ghost use Rattle.std.specs.Prelude.{◌≡◌, ◌+◌, ◌*◌, ◌≤◌, ◌<◌, length};
 ghost use Rattle.rules.specs.Rules.{first_match};
 ghost use Rattle.bits.specs.Tags.{given_back};

@@ -1,5 +1,7 @@
 // The forms in which the answer to a line is shown. The line is put first, then the answer is written where it is to stand, and then what
 // stands beside it is put. Each function that puts asks for exactly the room of its text and answers the place after it.
+#![tactic(auto)]
+
 ghost use Rattle.std.specs.Prelude.{◌≡◌, ◌+◌, ◌-◌, ◌≤◌, length, take, drop};
 ghost use Rattle.print.specs.Put.{Put};
 ghost use Rattle.form.specs.Shown.{mark, above, wanted, verdict, compared, standing, aside};
@@ -8,7 +10,7 @@ use parse::line::{find, is_same};
 use print::{put, put_end};
 
 // An answer alone; beside what is wanted, the text behind the `#` of its line; or under its line, which is repeated.
-#[derive(Drop)]
+#[derive(Clone, Copy)]
 pub enum Form {
     Alone,
     Beside,

@@ -11,7 +11,7 @@ use parse::arguments::Rest;
 use store::Controller;
 
 // A call of the model, or a fresh controller.
-#[derive(Drop)]
+#[derive(Clone, Copy)]
 pub enum Call {
     Controller,
     CreateCq,
@@ -25,7 +25,7 @@ pub enum Call {
 }
 
 // On a part of the memory, whose place and room are the first two numbers.
-#[derive(Drop)]
+#[derive(Clone, Copy)]
 pub enum OnPart {
     Fill,
     WriteSqe,
@@ -36,7 +36,7 @@ pub enum OnPart {
 }
 
 // A look at the controller, or a check of plain numbers.
-#[derive(Drop)]
+#[derive(Clone, Copy)]
 pub enum Look {
     CheckTail,
     CheckHead,
@@ -46,7 +46,7 @@ pub enum Look {
     ShowArbiter,
 }
 
-#[derive(Drop)]
+#[derive(Clone, Copy)]
 pub enum Command {
     Call(Call),
     OnPart(OnPart),
@@ -60,7 +60,7 @@ pub enum Command {
 }
 
 // How many numbers stand behind a word, the largest value of each, and what may stand behind these.
-#[derive(Drop)]
+#[derive(Clone, Copy)]
 pub struct Form {
     pub count: usize,
     pub largest: [u64; 16],

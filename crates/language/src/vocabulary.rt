@@ -7,7 +7,7 @@ ghost use Rattle.language.specs.Words.{name_of, joined};
 use crate::command::{Call, Command, Look, OnPart};
 use parse::line::is_same;
 
-#[derive(Drop)]
+#[derive(Clone, Copy)]
 pub enum Named {
     Command(Command),
     Nothing,

@@ -1,5 +1,7 @@
 // Little-endian fields of a byte slice: the leaves that the entries and the page walk are written with. Each asks for the
 // room of its field, which every caller shows.
+#![tactic(auto)]
+
 ghost use Rattle.std.specs.Prelude.{◌≡◌, ◌+◌, ◌≤◌, ◌<◌, ◌^◌, length};
 ghost use Rattle.std.proofs.lemmas.List.Edits.{sets};
 ghost use Rattle.le.specs.Le.{le, le_at};

@@ -1,4 +1,6 @@
 // The lines of a file that is read in chunks. Nothing is read here: a chunk is lent, and how many bytes a read gave is told.
+#![tactic(auto)]
+
 ghost use Rattle.std.specs.Prelude.{◌≡◌, ◌+◌, ◌≤◌, ◌++◌, length, take, drop};
 ghost use Rattle.print.specs.Put.{Put};
 ghost use Rattle.parse.specs.Line.{before};
@@ -18,7 +20,7 @@ pub const HELD_BYTES: usize = MOST_BYTES + 1;
 
 // How many lines have ended; how many bytes the chunk has, and how many of them are read; how many bytes of the next line are held; and
 // whether more may come.
-#[derive(Drop)]
+#[derive(Clone, Copy)]
 pub struct Lines {
     pub ended: u64,
     pub count: usize,
@@ -28,7 +30,7 @@ pub struct Lines {
 }
 
 // What a step finds: a line that has ended; nothing yet; the end of the file; or an error, by its number.
-#[derive(Drop)]
+#[derive(Clone, Copy)]
 pub enum Found {
     Line,
     Nothing,
@@ -37,7 +39,7 @@ pub enum Found {
 }
 
 // The lines after a step, what it found, and the length of a line that has ended: 0 where there is none.
-#[derive(Drop)]
+#[derive(Clone, Copy)]
 pub struct Step {
     pub lines: Lines,
     pub found: Found,
@@ -80,7 +82,7 @@ fn with_line(mut lines: Lines, length: usize) -> Step
 }
 
 // Where the line that is read ends in the chunk, at its LF or at the chunk's end, and how many bytes of it are held.
-#[derive(Drop)]
+#[derive(Clone, Copy)]
 struct Part {
     end: usize,
     held: usize,

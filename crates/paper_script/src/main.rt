@@ -1,4 +1,6 @@
 // The traced examples of documents 01 and 02: each answer is printed beside what is wanted.
+#![tactic(auto)]
+
 fn main() {
     dialogue::run_beside();
 }

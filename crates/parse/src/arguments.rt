@@ -9,7 +9,7 @@ use crate::line::next_word;
 use crate::number::{Number, value_up_to};
 
 // What may stand behind the fixed numbers: no word; any number of numbers up to a largest; or words of bytes.
-#[derive(Drop)]
+#[derive(Clone, Copy)]
 pub enum Rest {
     Nothing,
     Numbers(u64),
@@ -17,7 +17,7 @@ pub enum Rest {
 }
 
 // How many numbers and bytes were read, and whether no word was bad, missing or left.
-#[derive(Drop)]
+#[derive(Clone, Copy)]
 pub struct Arguments {
     pub good: bool,
     pub numbers: usize,
@@ -25,7 +25,7 @@ pub struct Arguments {
 }
 
 // How many numbers are stored, whether none was bad or missing, and the place after the last word in the line.
-#[derive(Drop)]
+#[derive(Clone, Copy)]
 struct Fixed {
     good: bool,
     count: usize,

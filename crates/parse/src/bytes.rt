@@ -7,7 +7,7 @@ use crate::line::next_word;
 use crate::number::{Number, digit_of};
 
 // The place after the values that were stored, and whether no word was bad.
-#[derive(Drop)]
+#[derive(Clone, Copy)]
 pub(crate) struct Taken {
     pub good: bool,
     pub end: usize,

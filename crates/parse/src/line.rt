@@ -6,7 +6,7 @@ ghost use Rattle.parse.specs.Line.{is_blank, in_word, lead, before, NextWord, wi
 pub const MOST_BYTES: usize = 4096;
 
 // Where a word stands in a line; it is empty where there is no word left.
-#[derive(Drop)]
+#[derive(Clone, Copy)]
 pub struct Word {
     pub start: usize,
     pub end: usize,

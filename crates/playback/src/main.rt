@@ -1,5 +1,7 @@
 // A plant's files: sets a controller and a memory up by the console lines of a file, replays a trace on them, and tells each
 // record and its answer in words.
+#![tactic(auto)]
+
 use crate::fault::{say_at, say_bad, say_path};
 use language::sizes::MEMORY_BYTES;
 use libc::STDERR_FILENO;

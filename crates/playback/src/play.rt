@@ -15,7 +15,7 @@ use transcript::piece::{PIECE_BYTES, ROOM_BYTES, put_piece};
 use transcript::summary::{Tally, put_summary};
 
 // The records so far, whether more are left, and whether nothing has stopped it.
-#[derive(Drop)]
+#[derive(Clone, Copy)]
 struct Play {
     tally: Tally,
     open: bool,

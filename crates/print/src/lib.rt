@@ -1,5 +1,7 @@
 // Texts, written into a buffer that is lent. Each function writes its text from `at` on, leaves every other byte as it was, asks for
 // exactly the room of the text and answers the place after it.
+#![tactic(auto)]
+
 ghost use Rattle.std.specs.Prelude.{◌≡◌, ◌∷◌, [], ◌+◌, ◌/◌, ◌%◌, ◌≤◌, ◌<◌, length};
 ghost use Rattle.print.specs.Text.{decimal_in, decimal, next, numbers, hex_digit, hex_byte, hex, hex_word, line_end, bad_line};
 ghost use Rattle.print.specs.Put.{Put};

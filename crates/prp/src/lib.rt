@@ -1,4 +1,6 @@
 // The PRP page walk: from PRP1, PRP2, a length and a page size number to the addresses and byte counts of the data pages.
+#![tactic(auto)]
+
 ghost use Rattle.std.specs.Prelude.{◌≡◌, ℕ, ◌+◌, ◌*◌, ◌%◌, ◌≤◌, ◌<◌, min, length};
 ghost use Rattle.std.proofs.lemmas.List.Edits.{sets};
 ghost use Rattle.rules.specs.Rules.{first_match};
@@ -12,7 +14,7 @@ ghost use Rattle.prp.specs.Answer.{addresses_of, numbers, Found};
 const MOST_BYTES: u64 = 1048576;
 
 // The number of pages and the number of list entries read, or the refusal number.
-#[derive(Drop)]
+#[derive(Clone, Copy)]
 pub enum Walked {
     Pages(u64, u64),
     Refused(u64),

@@ -1,5 +1,7 @@
 // What refusal numbers mean, in the words of document 01's table, and from 30 on of document 02's tickets. Each function that writes
 // does so from `at` on, asks for exactly the room of its text and answers the place after it.
+#![tactic(auto)]
+
 ghost use Rattle.std.specs.Prelude.{◌≡◌, ◌+◌, ◌≤◌, length};
 ghost use Rattle.print.specs.Put.{Put};
 ghost use Rattle.refusals.specs.Meaning.{meaning, is_of_record};

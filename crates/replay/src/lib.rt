@@ -1,4 +1,6 @@
 // The replay of plant traces: what a plant sends back is run through the model, record by record.
+#![tactic(auto)]
+
 ghost use Rattle.std.specs.Prelude.{◌≡◌, ◌+◌, ◌<◌, ◌≤◌, ◌^◌, eqb, length};
 ghost use Rattle.rules.specs.Rules.{pick};
 ghost use Rattle.le.specs.Memory.{part, put};
@@ -17,14 +19,14 @@ use store::WORDS;
 use trace::{Record, next_at, read};
 
 // How many answer records were written, or the refusal number.
-#[derive(Drop)]
+#[derive(Clone, Copy)]
 pub enum Replayed {
     Records(u64),
     Refused(u64),
 }
 
 // A call's refusal number, and its result: the value written, the first tag or the slot posted, 0 beside a refusal.
-#[derive(Drop)]
+#[derive(Clone, Copy)]
 struct CallAnswer {
     refusal: u64,
     result: u64,

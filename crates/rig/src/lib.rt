@@ -1,5 +1,7 @@
 // What a C program links: include/bellrafter.h declares it. Here the calls on plain numbers and byte buffers. An answer of several
 // numbers goes back in a struct; beside a refusal every other number is 0.
+#![tactic(auto)]
+
 ghost use Rattle.std.specs.Prelude.{◌≡◌, length};
 ghost use Rattle.le.specs.Memory.{put};
 ghost use Rattle.entry.specs.Completion.{completion, write_refusal, written, completion_read};
@@ -20,7 +22,7 @@ use ring::reader::Waiting;
 pub mod state;
 
 #[repr(C)]
-#[derive(Drop)]
+#[derive(Clone, Copy)]
 pub struct CompletionNumbers {
     pub refusal: u64,
     pub result: u32,
@@ -32,7 +34,7 @@ pub struct CompletionNumbers {
 }
 
 #[repr(C)]
-#[derive(Drop)]
+#[derive(Clone, Copy)]
 pub struct SubmissionNumbers {
     pub refusal: u64,
     pub fuse: u64,
@@ -52,14 +54,14 @@ pub struct SubmissionNumbers {
 }
 
 #[repr(C)]
-#[derive(Drop)]
+#[derive(Clone, Copy)]
 pub struct WaitingNumbers {
     pub refusal: u64,
     pub count: u64,
 }
 
 #[repr(C)]
-#[derive(Drop)]
+#[derive(Clone, Copy)]
 pub struct PagesNumbers {
     pub refusal: u64,
     pub pages: u64,
@@ -246,12 +248,9 @@ pub extern "C" fn bellrafter_page_walk(
     addresses: &mut [u8],
     counts: &mut [u8],
 ) -> PagesNumbers
-    ensures* result_value { do
-      ⌜ result ≡ pages_numbers (answer
-          (page_walk memory.now prp1 prp2 len page (← (⟦addresses.len()⟧).entry) (← (⟦counts.len()⟧).entry))) ⌝ }
-    ensures* addresses_after { do
-      ⌜ addresses.new ≡ put addresses.old 0 (numbers 8 (addresses_of
-          (page_walk memory.now prp1 prp2 len page (← (⟦addresses.len()⟧).entry) (← (⟦counts.len()⟧).entry)))) ⌝ }
+    ensures value { result ≡ pages_numbers (answer (page_walk memory.now prp1 prp2 len page (length addresses.old) (length counts.old))) }
+    ensures addresses_after { addresses.new ≡ put addresses.old 0 (numbers 8 (addresses_of
+        (page_walk memory.now prp1 prp2 len page (length addresses.old) (length counts.old)))) }
     ensures counts_after { counts.new ≡ put counts.old 0 (numbers 4 (byte_counts (page_size page) prp1 len result.pages)) }
 {
     match prp::walk(memory, prp1, prp2, len, page, addresses, counts) {

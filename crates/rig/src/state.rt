@@ -16,7 +16,7 @@ use replay::Replayed;
 use store::{Controller, WORDS, arbiter_of, command_at, cq_at, free_of, is_outstanding, sq_at};
 
 #[repr(C)]
-#[derive(Drop)]
+#[derive(Clone, Copy)]
 pub struct StartNumbers {
     pub refusal: u64,
     pub sq: u64,
@@ -29,7 +29,7 @@ pub struct StartNumbers {
 }
 
 #[repr(C)]
-#[derive(Drop)]
+#[derive(Clone, Copy)]
 pub struct FinishNumbers {
     pub refusal: u64,
     pub slot: u64,
@@ -37,14 +37,14 @@ pub struct FinishNumbers {
 }
 
 #[repr(C)]
-#[derive(Drop)]
+#[derive(Clone, Copy)]
 pub struct ReplayNumbers {
     pub refusal: u64,
     pub records: u64,
 }
 
 #[repr(C)]
-#[derive(Drop)]
+#[derive(Clone, Copy)]
 pub struct SqNumbers {
     pub refusal: u64,
     pub base: u64,
@@ -57,7 +57,7 @@ pub struct SqNumbers {
 }
 
 #[repr(C)]
-#[derive(Drop)]
+#[derive(Clone, Copy)]
 pub struct CqNumbers {
     pub refusal: u64,
     pub base: u64,
@@ -68,7 +68,7 @@ pub struct CqNumbers {
 }
 
 #[repr(C)]
-#[derive(Drop)]
+#[derive(Clone, Copy)]
 pub struct CommandNumbers {
     pub refusal: u64,
     pub sq: u64,
@@ -79,7 +79,7 @@ pub struct CommandNumbers {
 
 // A remainder without limit is the largest number.
 #[repr(C)]
-#[derive(Drop)]
+#[derive(Clone, Copy)]
 pub struct ArbiterNumbers {
     pub mechanism: u64,
     pub word: u64,

@@ -5,7 +5,7 @@ ghost use Rattle.ring.specs.Reader.{phase_in, read_count, reader_refusal, waitin
 use crate::slots::wrong_size;
 
 // How many completions wait, or the refusal number.
-#[derive(Drop)]
+#[derive(Clone, Copy)]
 pub enum Waiting {
     Count(u64),
     Refused(u64),

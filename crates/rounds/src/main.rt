@@ -1,5 +1,7 @@
 // What bench/run times: batches of commands that go through a controller, or of an arbiter's choices, beside plain C programs of the
 // same loops. The plan stands on one line of standard input, and a digest of all answers goes to standard output.
+#![tactic(auto)]
+
 ghost use Rattle.std.specs.Prelude.{◌<◌, ◌≤◌, length};
 ghost use Rattle.store.specs.Held.{Reached};
 
@@ -53,7 +55,7 @@ const BUSY: u64 = 7;
 // value held, which are refused; 5 to 7 are choices, where one queue is busy and comes right after the turn holder, where it is the
 // holder and comes last, and where many are busy. `busy` is the number of queues with commands, and `outstanding` that of the commands
 // which stay outstanding beside those of the batch.
-#[derive(Drop)]
+#[derive(Clone, Copy)]
 struct Plan {
     kind: u64,
     mechanism: u64,
@@ -63,7 +65,7 @@ struct Plan {
 }
 
 // The digest of the answers, the tail of each busy queue, the tail of its completion queue, and the tag that is finished next.
-#[derive(Drop)]
+#[derive(Clone, Copy)]
 struct Run {
     digest: u64,
     tail: u64,

@@ -1,4 +1,6 @@
 // The set-up: console lines that make the controller and the memory that a trace is replayed on.
+#![tactic(auto)]
+
 ghost use Rattle.std.specs.Prelude.{◌≡◌, ◌≤◌, length};
 ghost use Rattle.store.specs.Held.{Reached};
 ghost use Rattle.print.specs.Put.{Put};
@@ -18,7 +20,7 @@ use transcript::setup_line::put_setup_line;
 
 // How a set-up has ended: all lines are answered; or, at the line of a number, that is bad, the file cannot be read, or standard output not
 // be written. `errno` then still holds the reason.
-#[derive(Drop)]
+#[derive(Clone, Copy)]
 pub enum Ended {
     Made,
     Bad(u64),
@@ -27,14 +29,14 @@ pub enum Ended {
 }
 
 // How many bytes of the memory are lent, and how it has ended.
-#[derive(Drop)]
+#[derive(Clone, Copy)]
 pub struct Setup {
     pub lent: usize,
     pub ended: Ended,
 }
 
 // A set-up on its way: whether it goes on, and if not how it has ended.
-#[derive(Drop)]
+#[derive(Clone, Copy)]
 struct Progress {
     conversation: Conversation,
     open: bool,

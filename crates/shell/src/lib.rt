@@ -1,4 +1,6 @@
 // The console's commands: a line of its language is read, the call that it names is made, and the answer is written.
+#![tactic(auto)]
+
 ghost use Rattle.std.specs.Prelude.{◌∷◌, [], ◌≡◌, ◌≤◌, ◌-◌, length, take, drop};
 ghost use Rattle.controller.specs.State.{new_controller};
 ghost use Rattle.store.specs.Held.{Holds, held};

@@ -1,4 +1,6 @@
 // Starting commands.
+#![tactic(auto)]
+
 ghost use Rattle.std.specs.Prelude.{◌≡◌};
 ghost use Rattle.controller.specs.Answers.{outcome};
 ghost use Rattle.controller.specs.Calls.{perform, of_started, start as start_call};

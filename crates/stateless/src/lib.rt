@@ -1,4 +1,6 @@
 // The console's commands that need no controller, those on the memory, and answers, printed.
+#![tactic(auto)]
+
 pub mod part;
 pub mod peek;
 pub mod poke;

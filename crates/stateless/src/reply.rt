@@ -5,7 +5,7 @@ ghost use Rattle.stateless.specs.Leaving.{Says, changed_reply, told_reply};
 
 // The first `count` of the numbers, and the number by which a change that was asked for was refused, 0 for none; or, where it is not good,
 // that the line is a bad one.
-#[derive(Drop)]
+#[derive(Clone, Copy)]
 pub struct Reply {
     pub good: bool,
     pub refusal: u64,

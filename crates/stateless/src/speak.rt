@@ -10,7 +10,7 @@ use print::{put, put_bad, put_end, put_hex_word, put_numbers};
 
 // The length of an answer, 0 where there is none, and how many bytes of the memory are lent afterwards; whether the line was good, and the
 // number by which a change that it asked for, of the controller or of an entry, was refused: 0 for none.
-#[derive(Drop)]
+#[derive(Clone, Copy)]
 pub struct Answered {
     pub length: usize,
     pub lent: usize,

@@ -1,5 +1,7 @@
 // A controller in WORDS numbers that the caller lends: one field after another, each for every queue or every tag. Where they stand
 // is used in this crate alone; the calls use its getters and setters.
+#![tactic(auto)]
+
 ghost use Rattle.std.specs.Prelude.{◌≡◌, ◌+◌, ◌%◌, ◌≤◌, ◌<◌, set};
 ghost use Rattle.controller.specs.Doorbell.{tail_moved, head_moved, mark};
 ghost use Rattle.controller.specs.State.{outstanding, sq_at, cq_at, command_at, with_head, with_tail, sq_with_ring, with_sq, with_cq, with_commands};
@@ -387,13 +389,13 @@ pub fn is_outstanding(free: u64, tag: u64) -> bool
 }
 
 // A controller: the words that its calls are lent.
-#[derive(Drop)]
+#[derive(Clone, Copy)]
 pub struct Controller {
     pub words: [u64; WORDS],
 }
 
 // A new controller, and 0 or the refusal number.
-#[derive(Drop)]
+#[derive(Clone, Copy)]
 pub struct Created {
     pub refusal: u64,
     pub controller: Controller,

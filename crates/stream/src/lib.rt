@@ -1,5 +1,7 @@
 // Reading from a file and writing to standard output. A call that a signal interrupted, or that a non-blocking stream could
 // not make yet, is made again after a short sleep.
+#![tactic(auto)]
+
 ghost use Rattle.std.specs.Prelude.{◌≡◌, ◌^◌, ◌≤◌, ◌<◌, length};
 ghost use Rattle.io.specs.Counts.{IsPrefixLen};
 ghost use Rattle.stream.specs.Stops.{number_of, Stops, Fatal};
@@ -8,7 +10,7 @@ use libc::types::timespec;
 use libc::{EAGAIN, EINTR, STDOUT_FILENO};
 
 // What was read: how many bytes, and the number of the error that stopped it, 0 for none, which `errno` still holds.
-#[derive(Drop)]
+#[derive(Clone, Copy)]
 pub struct Input {
     pub count: usize,
     pub error: u64,

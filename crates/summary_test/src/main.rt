@@ -1,4 +1,6 @@
 // The summary of made-up answers: some of their numbers no trace of a test reaches.
+#![tactic(auto)]
+
 use libc::STDOUT_FILENO;
 use print::put_end;
 use refusals::{LARGEST, put_meaning};

@@ -1,4 +1,6 @@
 // Plant traces: a reader stands on the trace and hands out one record after another.
+#![tactic(auto)]
+
 ghost use Rattle.std.specs.Prelude.{◌≡◌, ◌+◌, ◌≤◌, eqb, length, drop};
 ghost use Rattle.rules.specs.Rules.{pick};
 ghost use Rattle.le.specs.Memory.{part};
@@ -10,7 +12,7 @@ pub const RECORD_BYTES: usize = 16;
 
 // What stands at a place of a trace: a call with its queue or tag and its value; a record that asks for none, by its number; or
 // nothing any more.
-#[derive(Drop)]
+#[derive(Clone, Copy)]
 pub enum Record {
     TailWrite(u8, u16),
     HeadWrite(u8, u16),
@@ -21,7 +23,7 @@ pub enum Record {
 }
 
 // A reader that stands at a place of a trace.
-#[derive(Drop)]
+#[derive(Clone, Copy)]
 pub struct Reader<'a> {
     pub trace: &'a [u8],
     pub at: usize,

@@ -13,7 +13,7 @@ pub const PIECE_BYTES: usize = 4096;
 pub const ROOM_BYTES: usize = 65536;
 
 // The place after the lines, and the records counted.
-#[derive(Drop)]
+#[derive(Clone, Copy)]
 pub struct Written {
     pub end: usize,
     pub tally: Tally,

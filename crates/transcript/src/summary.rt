@@ -15,7 +15,7 @@ const NUMBERS: usize = LARGEST + 1;
 
 // How many records there were, how many of them asked for a call, how many were refused, and how many by each number. After the
 // largest number of 64 bits a count begins at 0 again.
-#[derive(Drop)]
+#[derive(Clone, Copy)]
 pub struct Tally {
     pub records: u64,
     pub calls: u64,
