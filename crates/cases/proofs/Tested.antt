@@ -60,12 +60,13 @@ pub shared_typed : {c : Controller} (m : Memory) (xs : List Shared) → Reachabl
 shared_typed m [] r b e = tt
 shared_typed {c} m (x ∷ xs) r b e =
     let n = put m x.place x.bytes in
+    let run : Run = record { memory = n; calls = x.calls } in
     let h = and_true (low x.bytes && narrow x.calls) (all_narrow xs) e in
     let k = and_true (low x.bytes) (narrow x.calls) h.0 in
     let w = bytes_put m x.place x.bytes b (low_bytes x.bytes k.0) in (
       w,
       narrow_is x.calls k.1,
-      shared_typed _ xs (reached (given c n x.calls) r) (run_bytes n x.calls r w) h.1,
+      shared_typed {c = after_run c run} _ xs (reached (given c n x.calls) r) (run_bytes n x.calls r w) h.1,
     )
 
 -- ---- clear tags, and rings that the host leaves alone: tested at every step, which is more than is asked of a queue that is deleted later

@@ -4,7 +4,7 @@ use Prim.Native.Nat.{ℕ, zero, suc, ◌+◌, ◌-◌, ◌^◌, ◌≤◌, ◌<�
 use mathlib.Core.Bool.{Bool, true, false}
 use mathlib.Core.List.{List, [], ◌∷◌, ◌++◌, foldl}
 use mathlib.Core.Logic.{◌⊎◌, inl, inr, ⊎_elim, ◌↔◌}
-use mathlib.Core.Path.{◌≡◌, refl, sym, ap, ◌∙◌}
+use mathlib.Core.Path.{◌≡◌, refl, sym, ap, ◌∙◌, subst}
 use native.Mathlib.Omega.{arith}
 use lib.Count.{ones}
 use lib.ListN.{length, get_or, set, length-set}
@@ -104,7 +104,7 @@ finished_answered {ns} ks free tag second status fits out b h =
       gone = λ t o a.
           let p = back_was free tag out t o in
           let d = back_gone free tag (out_set free tag out).0 t o in
-          ⊎_elim (λ e. d (b.distinct t tag p out (sym (same t) ∙ e))) (λ x. h.gone t p (rw (same t) at x)) a;
+          ⊎_elim (λ e. d (b.distinct t tag p out (sym (same t) ∙ e))) (λ x. h.gone t p (subst (λ (k : ℕ). Among k ns) (same t) x)) a;
       once = (h.gone tag out, h.once);
       all = λ k l.
           ⊎_elim (λ a. inl (inr a))

@@ -140,7 +140,7 @@ module _ {c : Controller} (r : Reachable c) where
           (stays_or_deleted (of_rings (valid r) (made c m (valid r).free_64 call)) x h),
       λ y.
           let e = ap (λ a. (perform c m a).answer) y.0 in
-          rw y.0 (no_queue _ x (gone x (sym e ∙ y.1))),
+          rw y.0 (no_queue (perform c m (deletion x)).controller x (gone x (sym e ∙ y.1))),
     )
 
 -- ---- what does not exist is all zero; and SQ 0 alone names CQ 0
@@ -229,7 +229,7 @@ module _ {c : Controller} (r : Reachable c) where
   -- no ring that lives has a byte in common with the one that is gone
   pub bytes_free : (x : RingId) → Here c x → Shares (without c x) (ring_at c x).base (bytes_of c x) → ⊥
   bytes_free x h w =
-      ⊎_elim (λ (e : w.ring ≡ x). clash w.here (rw e (no_queue _ x (left_none r x h))))
+      ⊎_elim (λ (e : w.ring ≡ x). clash w.here (rw e (no_queue (without c x) x (left_none r x h))))
       (λ (d : w.ring ≡ x → ⊥).
       let o = others c x w.ring d in
       no_byte _ _ _ _ (apart r w.ring x d (rw o at w.here) h) (rw o at w.is))

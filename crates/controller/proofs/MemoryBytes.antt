@@ -71,4 +71,4 @@ call_bytes {c} {m} b (changes (finishes tag status result r)) = bytes_put m _ _ 
 pub run_bytes : {c : Controller} (m : Memory) (xs : List Call) → Reachable c → Bytes m → Bytes (leaves c m xs)
 run_bytes m [] r b = b
 run_bytes {c} m (x ∷ xs) r b =
-    run_bytes (perform c m x).memory xs (after r m x) (call_bytes b (of_commands (made c m (valid r).free_64 x)))
+    run_bytes {c = (perform c m x).controller} (perform c m x).memory xs (after r m x) (call_bytes b (of_commands (made c m (valid r).free_64 x)))

@@ -73,7 +73,7 @@ module _ (q : ℕ) where
   run_spares m [] r s y = record { clear = tt; there = y }
   run_spares {c} m (x ∷ xs) r s y =
       let p = and_true (spared q x) (spares q xs) s in
-      let u = run_spares (perform c m x).memory xs (after r m x) p.1 (stays r m q x p.0 y) in
+      let u = run_spares {c = (perform c m x).controller} (perform c m x).memory xs (after r m x) p.1 (stays r m q x p.0 y) in
       record { clear = (λ z e. absurd (clash y e), u.clear); there = u.there }
 
 -- ---- a completion queue that is created after any runs, and what they left of its ring is no matter
