@@ -1,0 +1,29 @@
+-- `arbiter::Group::turn` meets its contract. Assumes nothing.
+use mathlib.Core.Path.{sym, ap, ◌∙◌}
+use Rattle.arbiter.specs.Turns.{takes}
+use Rattle.arbiter.proofs.Turns.{turn_held, turn_passed}
+use Rattle.arbiter.proofs.Choice.{turn_answered}
+use Rattle.arbiter.proofs.Group.turn.Goals as goal
+
+-- the clauses by name
+named : {A0 A1 : Type 0} → A0 × A1 → record { value : A0; refusal : A1 }
+named p = record { value = p.0; refusal = p.1 }
+
+pub above_zero-requires : goal.above_zero-requires
+above_zero-requires c =
+    let e = c.before.before in
+    turn_answered _ e.before.ranges.mask.fits _ _
+    (c.serve.ensures.0 ∙ turn_held _ _ _ e.is-candidate.ensures c.before.above_zero.ensures c.if1.true)
+
+pub returns-in_default : goal.returns-in_default
+returns-in_default c =
+    named (turn_answered _ c.ranges.mask.fits _ _
+    (ap (takes _) (sym c.in_default.is ∙ c.next_turn.ensures.value)
+    ∙ turn_passed _ _ _ c.is_candidate.ensures c.above_zero.ensures c.if-is_candidate-above_zero.false))
+
+pub returns : goal.returns
+returns c =
+    named (turn_answered _ c.ranges.mask.fits _ _
+    (c.serve-2.ensures.value
+    ∙ ap (takes _) (sym c.in-Id.is ∙ c.next_turn.ensures.value)
+    ∙ turn_passed _ _ _ c.is_candidate.ensures c.above_zero.ensures c.if-is_candidate-above_zero.false))

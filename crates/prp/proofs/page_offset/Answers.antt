@@ -1,0 +1,12 @@
+use mathlib.Core.Path.{refl}
+use native.Mathlib.Nat.{mod-lt}
+use native.Mathlib.Omega.{arith}
+use Prim.Native.Nat.{◌<◌}
+use Rattle.prp.specs.Pages.{page_size}
+use Rattle.prp.proofs.Touched.{page_low}
+use Rattle.prp.proofs.page_offset.Goals as goal
+
+pub returns : goal.returns
+returns c =
+    let pos : 0 < page_size c.args.page = omega (arith, page_low c.args.page) in
+    rw c.page_size.ensures.0 (refl, mod-lt c.args.address pos)

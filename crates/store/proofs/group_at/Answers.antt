@@ -1,0 +1,6 @@
+-- `group_at` meets its contract. Assumes nothing.
+use Rattle.store.proofs.group_at.Goals as goal
+
+pub returns : goal.returns
+returns c =
+    rw (c.dword.ensures, c.remainder_of.ensures)

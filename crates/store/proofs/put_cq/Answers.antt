@@ -1,0 +1,9 @@
+-- `put_cq` meets its contract. Assumes nothing.
+use Rattle.store.proofs.Setters.{cq_put}
+use borrow.Author.Rules.{rules}
+use Rattle.store.proofs.put_cq.Goals as goal
+
+pub returns : goal.returns
+returns c =
+    cq_put c.args.s.now c.requires.1 c.args.i c.requires.0 c.args.q _ c.bit-exists.ensures
+    (search rules) (search rules) (search rules) (search rules) (search rules)
