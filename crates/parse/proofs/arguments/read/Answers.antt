@@ -15,22 +15,13 @@ use Rattle.parse.proofs.Givens.{read_bad, read_nothing, read_numbers, read_bytes
 use Rattle.parse.proofs.arguments.read.Goals as goal
 use Rattle.parse.proofs.arguments.read.Goals.{Start}
 
--- no goal has this name today
--- same_length c = put_length c.before.before.before.before.store-fixed.ensures.0.put
-
 pub returns-then-not-fixed : goal.returns-then-not-fixed
 returns-then-not-fixed c =
     read_bad _ _ c.store_fixed-fixed.ensures.0 _ _ (not-true _ c.if-not-fixed.true)
 
--- no goal has this name today
--- enum_told c = search rules
-
 pub next_word-w-requires : goal.next_word-w-requires
 next_word-w-requires c =
     c.store_fixed-fixed.ensures.1
-
--- no goal has this name today
--- enum-known-rest c = search rules
 
 pub store_numbers-taken-requires : goal.store_numbers-taken-requires
 store_numbers-taken-requires c =
@@ -43,16 +34,10 @@ store_numbers-taken-requires c =
     let m = words_most (drop c.args.at c.args.line.now) in
     (f.1, omega (arith, n.0, n.1, l, d, m, f.0.put.ends, put_length f.0.put, c.requires))
 
--- no goal has this name today
--- enum-told-2 c = search rules
-
 pub store-taken-requires : goal.store-taken-requires
 store-taken-requires c =
     let f0 = c.store_fixed-fixed in
     (f0.ensures.1, c.requires.3)
-
--- no goal has this name today
--- same-length-2 c = put_length c.before.before.before.before.before.before.before.before.store-fixed.ensures.0.put
 
 pub returns-in-Nothing : goal.returns-in-Nothing
 returns-in-Nothing c =
@@ -62,26 +47,13 @@ returns-in-Nothing c =
     let o = none_left w.ensures in
     read_nothing _ _ f.0 _ g _ _ c.in-Nothing.is (o ∙ ap is_empty (f.2 g))
 
--- no goal has this name today
--- same-length-3 c =     let f0 = c.before.before.before.before.before.before.before.before.before.before.before.store-fixed in
---     let t = c.before.before.store-numbers in
---     put_length t.ensures.put ∙ put_length f0.ensures.0.put
-
 pub returns-in-Numbers : goal.returns-in-Numbers
 returns-in-Numbers c =
     let f0 = c.store_fixed-fixed in
     let t = c.store_numbers-taken in
     let f = f0.ensures in
     let g = not-false _ c.if-not-fixed.false in
-    let r = c.rest-1.given in
-    read_numbers _ _ f.0 _ g _ _ r.1 (stored_as t.ensures (ap (λ ws. numbers_in r.0.0 ws) (f.2 g)))
-
--- no goal has this name today
--- same-length-4 c =     let f0 = c.before.before.before.before.before.before.before.before.before.before.store-fixed in
---     put_length f0.ensures.0.put
-
--- no goal has this name today
--- same-length-5 c = put_length c.before.before.store.ensures.put
+    read_numbers _ _ f.0 _ g _ _ c.in-Numbers.is (stored_as t.ensures (ap (numbers_in c.in-Numbers.most) (f.2 g)))
 
 pub returns-in-Bytes : goal.returns-in-Bytes
 returns-in-Bytes c =
