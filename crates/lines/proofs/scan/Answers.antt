@@ -7,43 +7,37 @@ use Rattle.lines.proofs.scan.Goals as goal
 
 pub slice_bounds-gather-end : goal.slice_bounds-gather-end
 slice_bounds-gather-end c =
-    let s = c.before in sym (chunk_length _ _ s.requires.0 s.requires.1)
+    sym (chunk_length _ _ c.requires.0 c.requires.1)
 
 pub gather-part-requires : goal.gather-part-requires
 gather-part-requires c =
-    let s = c.before in
-    let l = chunk_length _ s.args.chunk.now s.requires.0 s.requires.1 in
-    (omega (arith, s.requires.0.place, l), s.requires.0.line, omega (arith, s.requires.2))
+    let l = chunk_length _ c.args.chunk.now c.requires.0 c.requires.1 in
+    (omega (arith, c.requires.0.place, l), c.requires.0.line, omega (arith, c.requires.2))
 
 pub slice_bounds-without_cr-end : goal.slice_bounds-without_cr-end
 slice_bounds-without_cr-end c =
-    let s = c.before in
     let g = c.gather-part.ensures in
-    held_inside _ s.args.chunk.now s.requires.0 s.requires.1 _ _ s.requires.2 _ _ g.0 g.1 g.2
+    held_inside _ c.args.chunk.now c.requires.0 c.requires.1 _ _ c.requires.2 _ _ g.0 g.1 g.2
 
 pub slice_bounds-without_cr-end-then-end-count : goal.slice_bounds-without_cr-end-then-end-count
 slice_bounds-without_cr-end-then-end-count c =
-    let s = c.before.before in
-    let g = c.gather.ensures in
-    sym (length-take-le _ _ (held_inside _ s.args.chunk.now s.requires.0 s.requires.1 _ _ s.requires.2 _ _ g.0 g.1 g.2))
+    let g = c.gather-part.ensures in
+    sym (length-take-le _ _ (held_inside _ c.args.chunk.now c.requires.0 c.requires.1 _ _ c.requires.2 _ _ g.0 g.1 g.2))
 
 pub returns-then-end-count : goal.returns-then-end-count
 returns-then-end-count c =
-    let s = c.before.before in
-    let g = c.gather.ensures in
-    scanned_line _ _ s.requires.0 s.requires.1 _ _ s.requires.2 _ _ g.0 g.1 g.2 c.if1.true
+    let g = c.gather-part.ensures in
+    scanned_line _ _ c.requires.0 c.requires.1 _ _ c.requires.2 _ _ g.0 g.1 g.2 c.if-end-count.true
     c.without_cr.ensures c.with_line.ensures
 
 pub returns-then-lines : goal.returns-then-lines
 returns-then-lines c =
-    let s = c.before in
     let g = c.gather-part.ensures in
-    scanned_rest _ _ s.requires.0 s.requires.1 _ _ s.requires.2 _ _ g.0 g.1 g.2 Nothing c.if-end-count.false
+    scanned_rest _ _ c.requires.0 c.requires.1 _ _ c.requires.2 _ _ g.0 g.1 g.2 Nothing c.if-end-count.false
     (ap (λ (b : Bool). pick b Nothing End) c.if-lines.true) c.without_line.ensures
 
 pub returns : goal.returns
 returns c =
-    let s = c.before in
     let g = c.gather-part.ensures in
-    scanned_rest _ _ s.requires.0 s.requires.1 _ _ s.requires.2 _ _ g.0 g.1 g.2 End c.if-end-count.false
+    scanned_rest _ _ c.requires.0 c.requires.1 _ _ c.requires.2 _ _ g.0 g.1 g.2 End c.if-end-count.false
     (ap (λ (b : Bool). pick b Nothing End) c.if-lines.false) c.without_line-2.ensures
