@@ -12,22 +12,21 @@ put-to-requires c =
     let e = above_under _ c.args.line.now c.in-Under.is in
     omega (arith, ap length e, length-append c.args.line.now line_end, c.requires)
 
-pub put-to-requires : goal.put-to-requires
-put-to-requires c =
-    let s = c.before.before.before.before in
-    let p = c.put.ensures in
-    let e = above_under _ s.args.line.now c.enum-told3.given.1 in
-    omega (arith, ap length e, length-append s.args.line.now line_end, s.requires, p.ends, put_length p)
+pub put_end-requires : goal.put_end-requires
+put_end-requires c =
+    let p = c.put-to.ensures in
+    let e = above_under _ c.args.line.now c.in-Under.is in
+    omega (arith, ap length e, length-append c.args.line.now line_end, c.requires, p.ends, put_length p)
+
+pub returns-in-Alone : goal.returns-in-Alone
+returns-in-Alone c =
+    put_as (put_none _ _) (sym (above_alone _ _ c.in-Alone.is))
+
+pub returns-in-Beside : goal.returns-in-Beside
+returns-in-Beside c =
+    put_as (put_none _ _) (sym (above_beside _ _ c.in-Beside.is))
 
 pub returns-in-Under : goal.returns-in-Under
 returns-in-Under c =
     put_as (put_then c.put-to.ensures c.put_end.ensures)
     (sym (above_under _ _ c.in-Under.is))
-
-pub put_end-requires : goal.put_end-requires
-put_end-requires c =
-    put_as (put_none _ _) (sym (above_alone _ _ c.enum_told.given.1))
-
-pub returns-in-Alone : goal.returns-in-Alone
-returns-in-Alone c =
-    put_as (put_none _ _) (sym (above_beside _ _ c.enum-told2.given.1))

@@ -15,8 +15,8 @@ pub returns-then-same : goal.returns-then-same
 returns-then-same c =
     put_as c.put.ensures (ap verdict (sym c.if-same.true))
 
-pub returns-then-same : goal.returns-then-same
-returns-then-same c =
+pub put-requires-2 : goal.put-requires-2
+put-requires-2 c =
     omega (arith, ap (λ (b : Bool). length (verdict b)) c.if-same.false, c.requires)
 
 pub returns : goal.returns
