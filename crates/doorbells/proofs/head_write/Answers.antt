@@ -3,11 +3,9 @@ use mathlib.Core.List.{[]}
 use mathlib.Core.Path.{sym, ◌∙◌}
 use native.Mathlib.Omega.{arith}
 use Rattle.rules.proofs.Tests.{not_no}
-use Rattle.controller.specs.Valid.{RingOk}
 use Rattle.store.specs.Held.{held}
 use Rattle.doorbells.proofs.Writes.{head_low, head_1, head_9, head_10, head_0, cq_ok}
 use Rattle.doorbells.proofs.head_write.Goals as goal
-use Rattle.doorbells.proofs.head_write.Goals.{After-cq_at-q, After-struct_known-1, After-takes_head, After-takes_head-arg-1, Else-not-q, Start}
 
 pub returns-then-id-gt-LAST_QUEUE : goal.returns-then-id-gt-LAST_QUEUE
 returns-then-id-gt-LAST_QUEUE c =
@@ -16,12 +14,6 @@ returns-then-id-gt-LAST_QUEUE c =
 pub returns-then-not-q : goal.returns-then-not-q
 returns-then-not-q c =
     (c.requires.sound, λ m. head_9 (held c.args.state.now) _ _ m c.if-id-gt-LAST_QUEUE.false c.cq_at-q.ensures c.if-not-q.true)
-
--- past the tests the ring is in order
-ring_ok :
-    (c : Else-not-q) → RingOk c.cq_at-q.result.ring
-ring_ok c =
-    cq_ok (held c.args.state.now) _ c.args.value [] c.if-id-gt-LAST_QUEUE.false c.cq_at-q.ensures c.if-not-q.false c.requires.reachable
 
 pub returns-then-not-takes_head : goal.returns-then-not-takes_head
 returns-then-not-takes_head c = (
@@ -32,7 +24,7 @@ returns-then-not-takes_head c = (
 
 pub overflow_cast-value : goal.overflow_cast-value
 overflow_cast-value c =
-    let l = head_low _ (ring_ok (goal.at.overflow_cast-value c).After-takes_head-arg-1) _ (sym c.takes_head.ensures ∙ not_no _ c.if-not-takes_head.false-raw) in
+    let l = head_low _ (cq_ok (held c.args.state.now) _ c.args.value [] c.if-id-gt-LAST_QUEUE.false c.cq_at-q.ensures c.if-not-q.false c.requires.reachable) _ (sym c.takes_head.ensures ∙ not_no _ c.if-not-takes_head.false-raw) in
     record { fits = omega arith }
 
 pub returns : goal.returns
@@ -45,4 +37,4 @@ returns c =
 
 pub takes_head-requires : goal.takes_head-requires
 takes_head-requires c =
-    ring_ok c
+    cq_ok (held c.args.state.now) _ c.args.value [] c.if-id-gt-LAST_QUEUE.false c.cq_at-q.ensures c.if-not-q.false c.requires.reachable

@@ -3,11 +3,9 @@ use mathlib.Core.List.{[]}
 use mathlib.Core.Path.{sym, ◌∙◌}
 use native.Mathlib.Omega.{arith}
 use Rattle.rules.proofs.Tests.{not_no}
-use Rattle.controller.specs.Valid.{RingOk}
 use Rattle.store.specs.Held.{held}
 use Rattle.doorbells.proofs.Writes.{tail_low, tail_1, tail_9, tail_11, tail_10, tail_0, sq_ok}
 use Rattle.doorbells.proofs.tail_write.Goals as goal
-use Rattle.doorbells.proofs.tail_write.Goals.{After-sq_at-q, After-struct_known-1, After-takes_tail, After-takes_tail-arg-1, Else-q, Start}
 
 pub returns-then-id-gt-LAST_QUEUE : goal.returns-then-id-gt-LAST_QUEUE
 returns-then-id-gt-LAST_QUEUE c =
@@ -23,13 +21,6 @@ returns-then-q c = (
   λ m. tail_11 (held c.args.state.now) _ _ m c.if-id-gt-LAST_QUEUE.false c.sq_at-q.ensures c.if-not-q.false c.if-q.true,
 )
 
--- past the tests the ring is in order
-ring_ok :
-    (c : Else-q) → RingOk c.sq_at-q.result.ring
-ring_ok c =
-    sq_ok (held c.args.state.now) _ c.args.value [] c.if-id-gt-LAST_QUEUE.false c.sq_at-q.ensures c.if-not-q.false
-    c.requires.reachable
-
 pub returns-then-not-takes_tail : goal.returns-then-not-takes_tail
 returns-then-not-takes_tail c =
     let p = c.mark_sq.ensures in (
@@ -40,7 +31,7 @@ returns-then-not-takes_tail c =
 
 pub overflow_cast-value : goal.overflow_cast-value
 overflow_cast-value c =
-    let l = tail_low _ (ring_ok (goal.at.overflow_cast-value c).After-takes_tail-arg-1) _ (sym c.takes_tail.ensures ∙ not_no _ c.if-not-takes_tail.false-raw) in
+    let l = tail_low _ (sq_ok (held c.args.state.now) _ c.args.value [] c.if-id-gt-LAST_QUEUE.false c.sq_at-q.ensures c.if-not-q.false c.requires.reachable) _ (sym c.takes_tail.ensures ∙ not_no _ c.if-not-takes_tail.false-raw) in
     record { fits = omega arith }
 
 pub returns : goal.returns
@@ -53,4 +44,4 @@ returns c =
 
 pub takes_tail-requires : goal.takes_tail-requires
 takes_tail-requires c =
-    ring_ok c
+    sq_ok (held c.args.state.now) _ c.args.value [] c.if-id-gt-LAST_QUEUE.false c.sq_at-q.ensures c.if-not-q.false c.requires.reachable
