@@ -1,3 +1,4 @@
+-- `entry::completion::read` meets its contract. Assumes nothing.
 use borrow.Author.Tests.{lt-ltb, le-ltb}
 use Rattle.rules.specs.Rules.{settle}
 use Rattle.rules.proofs.Tables.{answer_number}

@@ -1,3 +1,4 @@
+-- `entry::completion::write` meets its contract. Assumes nothing.
 use borrow.Author.Tests.{lt-ltb, le-ltb}
 use Rattle.rules.specs.Rules.{settle}
 use Rattle.entry.specs.Completion.{write_refusal, written}
@@ -12,11 +13,11 @@ returns-then-status-gt32767 c =
       buf_after = simp e;
     }
 
-pub returns-then-status-gt32767 : goal.returns-then-status-gt32767
+pub returns-then-buf-lt16 : goal.returns-then-buf-lt16
 unfolding write_refusal written settle
-returns-then-status-gt32767 c =
-    let e = le-ltb _ _ c.if1.false in
-    let f = lt-ltb _ _ c.if2.true in
+returns-then-buf-lt16 c =
+    let e = le-ltb _ _ c.if-status-gt32767.false in
+    let f = lt-ltb _ _ c.if-buf-lt16.true in
     record {
       value = simp (e, f);
       buf_after = simp (e, f);

@@ -1,3 +1,4 @@
+-- `entry::submission::write` meets its contract. Assumes nothing.
 use borrow.Author.Tests.{lt-ltb, le-ltb}
 use Rattle.rules.specs.Rules.{settle}
 use Rattle.entry.specs.Submission.{write_refusal, written}
