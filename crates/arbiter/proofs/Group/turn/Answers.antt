@@ -9,11 +9,10 @@ use Rattle.arbiter.proofs.Group.turn.Goals as goal
 named : {A0 A1 : Type 0} → A0 × A1 → record { value : A0; refusal : A1 }
 named p = record { value = p.0; refusal = p.1 }
 
-pub above_zero-requires : goal.above_zero-requires
-above_zero-requires c =
-    let e = c.before.before in
-    turn_answered _ e.before.ranges.mask.fits _ _
-    (c.serve.ensures.0 ∙ turn_held _ _ _ e.is-candidate.ensures c.before.above_zero.ensures c.if1.true)
+pub returns-then-is_candidate-above_zero : goal.returns-then-is_candidate-above_zero
+returns-then-is_candidate-above_zero c =
+    named (turn_answered _ c.ranges.mask.fits _ _
+    (c.serve.ensures.value ∙ turn_held _ _ _ c.is_candidate.ensures c.above_zero.ensures c.if-is_candidate-above_zero.true))
 
 pub returns-in_default : goal.returns-in_default
 returns-in_default c =
