@@ -9,7 +9,13 @@ returns-then-rings_outside c =
 
 pub returns-then-not-is_outstanding : goal.returns-then-not-is_outstanding
 returns-then-not-is_outstanding c =
-    rw (← c.rings_outside.ensures, c.if-rings_outside.false, ← c.free_of.ensures, ← c.is_outstanding.ensures, c.if-not-is_outstanding.true-raw)
+    rw (
+      ← c.rings_outside.ensures,
+      c.if-rings_outside.false,
+      ← c.free_of.ensures,
+      ← c.is_outstanding.ensures,
+      c.if-not-is_outstanding.true-raw,
+    )
 
 pub returns-then-status-gt-LAST_STATUS : goal.returns-then-status-gt-LAST_STATUS
 returns-then-status-gt-LAST_STATUS c =

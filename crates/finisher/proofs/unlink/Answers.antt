@@ -2,7 +2,6 @@
 use mathlib.Core.Path.{◌∙◌}
 use Rattle.finisher.proofs.Finishes.{stays, unlinks}
 use Rattle.finisher.proofs.unlink.Goals as goal
-use Rattle.finisher.proofs.unlink.Goals.{After-command_at-half, After-release}
 
 pub returns-then-second-eq0 : goal.returns-then-second-eq0
 returns-then-second-eq0 c =
@@ -14,5 +13,5 @@ returns c =
       sound = c.put_command.ensures.sound;
       is =
           c.put_command.ensures.is
-          ∙ unlinks _ _ _ c.if1.false _ c.release.ensures c.command_at-half.ensures;
+          ∙ unlinks _ _ _ c.if-second-eq0.false _ c.release.ensures c.command_at-half.ensures;
     }
