@@ -24,7 +24,11 @@ returns-then-not-takes_head c = (
 
 pub overflow_cast-value : goal.overflow_cast-value
 overflow_cast-value c =
-    let l = head_low _ (cq_ok (held c.args.state.now) _ c.args.value [] c.if-id-gt-LAST_QUEUE.false c.cq_at-q.ensures c.if-not-q.false c.requires.reachable) _ (sym c.takes_head.ensures ∙ not_no _ c.if-not-takes_head.false-raw) in
+    let l =
+    head_low _
+    (cq_ok (held c.args.state.now) _ c.args.value [] c.if-id-gt-LAST_QUEUE.false c.cq_at-q.ensures c.if-not-q.false
+    c.requires.reachable)
+    _ (sym c.takes_head.ensures ∙ not_no _ c.if-not-takes_head.false-raw) in
     record { fits = omega arith }
 
 pub returns : goal.returns
@@ -37,4 +41,5 @@ returns c =
 
 pub takes_head-requires : goal.takes_head-requires
 takes_head-requires c =
-    cq_ok (held c.args.state.now) _ c.args.value [] c.if-id-gt-LAST_QUEUE.false c.cq_at-q.ensures c.if-not-q.false c.requires.reachable
+    cq_ok (held c.args.state.now) _ c.args.value [] c.if-id-gt-LAST_QUEUE.false c.cq_at-q.ensures c.if-not-q.false
+    c.requires.reachable

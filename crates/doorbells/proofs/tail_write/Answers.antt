@@ -31,7 +31,11 @@ returns-then-not-takes_tail c =
 
 pub overflow_cast-value : goal.overflow_cast-value
 overflow_cast-value c =
-    let l = tail_low _ (sq_ok (held c.args.state.now) _ c.args.value [] c.if-id-gt-LAST_QUEUE.false c.sq_at-q.ensures c.if-not-q.false c.requires.reachable) _ (sym c.takes_tail.ensures ∙ not_no _ c.if-not-takes_tail.false-raw) in
+    let l =
+    tail_low _
+    (sq_ok (held c.args.state.now) _ c.args.value [] c.if-id-gt-LAST_QUEUE.false c.sq_at-q.ensures c.if-not-q.false
+    c.requires.reachable)
+    _ (sym c.takes_tail.ensures ∙ not_no _ c.if-not-takes_tail.false-raw) in
     record { fits = omega arith }
 
 pub returns : goal.returns
@@ -44,4 +48,5 @@ returns c =
 
 pub takes_tail-requires : goal.takes_tail-requires
 takes_tail-requires c =
-    sq_ok (held c.args.state.now) _ c.args.value [] c.if-id-gt-LAST_QUEUE.false c.sq_at-q.ensures c.if-not-q.false c.requires.reachable
+    sq_ok (held c.args.state.now) _ c.args.value [] c.if-id-gt-LAST_QUEUE.false c.sq_at-q.ensures c.if-not-q.false
+    c.requires.reachable
