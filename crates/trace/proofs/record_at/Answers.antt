@@ -19,6 +19,3 @@ returns-then-trace-at-lt-RECORD_BYTES c =
 pub returns : goal.returns
 returns c =
     named (answered _ _ (c.whole_at.ensures ∙ there _ _ c.if-trace-at.false))
-
-pub record-at-spec : {M : Type 1} → statement M
-record-at-spec = goal.close (goal.spec returns sub-if2 returns-2 whole-at-requires returns-3)

@@ -1,4 +1,5 @@
 -- `whole_at` meets its contract: each arm is a case of what a record of 16 bytes is. Assumes nothing.
+use native.Mathlib.Omega.{arith}
 use Rattle.trace.proofs.Wholes.{spare_at, unknown_at, start_at, tail_at, head_at, finish_at}
 use Rattle.trace.proofs.whole_at.Goals as goal
 
@@ -28,6 +29,5 @@ returns-in-4 c =
 
 pub returns-in_default : goal.returns-in_default
 returns-in_default c =
-    let n = c.in_default.rest in
     unknown_at _ _ c.requires c.get8-call.ensures.0 c.has_spare.ensures c.if-has_spare.false
-    n.0.0.0.1 n.0.0.1 n.0.1 n.1
+    (omega arith) (omega arith) (omega arith) (omega arith)
