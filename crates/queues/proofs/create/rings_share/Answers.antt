@@ -1,28 +1,12 @@
 -- `rings_share` meets its contract. The loop's invariant: no ring passed shares a byte; the measure is how many ids
 -- are left. Assumes nothing.
-use Prim.Native.Nat.{ℕ, ◌-◌}
-use mathlib.Core.Bool.{Bool}
-use mathlib.Core.Path.{◌≡◌, ◌∙◌}
+use mathlib.Core.Path.{◌∙◌}
 use native.Mathlib.Omega.{arith}
-use Rattle.controller.specs.Rings.{either_ring, some_ring, sharing, shares}
+use Rattle.controller.specs.Rings.{some_ring, sharing, shares}
 use Rattle.store.specs.Held.{held}
 use Rattle.queues.proofs.Scans.{begins, goes_on, found, ends}
 use Rattle.queues.proofs.Bounds.{sq_passes, either_is}
 use Rattle.queues.proofs.create.rings_share.Goals as goal
-use Rattle.queues.proofs.create.rings_share.Goals.{After-ring_shares-in-loop-i, In-loop-i}
-
--- the test, and what the code finds of an id
-abbrev test :
-    In-loop-i → ℕ → Bool
-test c =
-    let a = c.args in either_ring (held a.state.now) (sharing a.a a.k)
-
-either :
-    (c : After-ring_shares-in-loop-i) → test c.before.before.before.before.before.before.before c.loop-i.i ≡ c.ring_shares-in-loop-i.result
-either c =
-    let a = c.args in
-    either_is (held a.state.now) (sharing a.a a.k) _ c.sq_at-sq.ensures c.ring_shares.ensures c.if-ring_shares.false
-    c.cq_at-cq.ensures c.ring_shares-in-loop-i.ensures
 
 pub returns-then-ring_shares : goal.returns-then-ring_shares
 unfolding shares some_ring
@@ -34,11 +18,15 @@ returns-then-ring_shares c =
 pub returns-then-ring_shares-2 : goal.returns-then-ring_shares-2
 unfolding shares some_ring
 returns-then-ring_shares-2 c =
-    found 16 _ _ (omega arith) (either (goal.at.returns-then-ring_shares-2 c).After-ring_shares-in-loop-i ∙ c.if-ring_shares-2.true)
+    found 16 _ _ (omega arith) (either_is (held c.args.state.now) (sharing c.args.a c.args.k) _ c.sq_at-sq.ensures
+    c.ring_shares.ensures c.if-ring_shares.false
+    c.cq_at-cq.ensures c.ring_shares-in-loop-i.ensures ∙ c.if-ring_shares-2.true)
 
 pub loop-i-preserved : goal.loop-i-preserved
 loop-i-preserved c =
-    goes_on 16 _ c.loop-i.inv (omega arith) (either (goal.at.loop-i-preserved c).After-ring_shares-in-loop-i ∙ c.if-ring_shares-2.false)
+    goes_on 16 _ c.loop-i.invariant (omega arith) (either_is (held c.args.state.now) (sharing c.args.a c.args.k) _
+    c.sq_at-sq.ensures c.ring_shares.ensures c.if-ring_shares.false
+    c.cq_at-cq.ensures c.ring_shares-in-loop-i.ensures ∙ c.if-ring_shares-2.false)
 
 pub returns : goal.returns
 unfolding shares some_ring

@@ -1,38 +1,49 @@
 -- `delete_cq` meets its contract. Assumes nothing.
+use Prim.Native.Nat.{ℕ}
+use mathlib.Core.Bool.{Bool}
 use mathlib.Core.Path.{◌≡◌, sym, ◌∙◌}
 use native.Mathlib.Omega.{arith}
-use Rattle.controller.specs.Delete.{delete_cq_refusal, delete_cq}
+use Rattle.rules.specs.Rules.{first_match}
+use Rattle.controller.specs.Controller.{Controller}
+use Rattle.controller.specs.State.{cq_at}
+use Rattle.controller.specs.Delete.{named, delete_rules, delete_cq_refusal, delete_cq}
 use Rattle.controller.proofs.Made.{DeletableCq, deletable_cq}
 use Rattle.store.specs.Held.{held}
 use Rattle.queues.proofs.Changes.{unchanged, changed}
 use Rattle.queues.proofs.delete.delete_cq.Goals as goal
-use Rattle.queues.proofs.delete.delete_cq.Goals.{After-delete_refusal-refusal, Else-refusal-ne0}
 
 -- the refusal is the definition's
 refusal :
-    (c : After-delete_refusal-refusal)
-    → (let a = c.args in c.delete_refusal-refusal.result ≡ delete_cq_refusal (held a.state.now) a.id)
+    (c : Controller) (id r : ℕ) (exists in_use : Bool)
+    → exists ≡ (cq_at c id).ring.exists → in_use ≡ named c id
+    → r ≡ first_match (delete_rules id exists in_use 34)
+    → r ≡ delete_cq_refusal c id
 unfolding delete_cq_refusal
-refusal c =
-    rw (← c.cq-exists.ensures, ← c.is_named.ensures) c.delete_refusal-refusal.ensures
-
--- past the test, the queue may go
-known :
-    (c : Else-refusal-ne0) → (let a = c.args in DeletableCq (held a.state.now) a.id)
-known c =
-    deletable_cq _ _ (sym (refusal c.before) ∙ c.if-refusal-ne0.false)
+refusal c id r exists in_use e u x = rw (← e, ← u) x
 
 pub returns-then-refusal-ne0 : goal.returns-then-refusal-ne0
 unfolding delete_cq
-returns-then-refusal-ne0 c =
-    (c.requires.sound, λ m. unchanged _ _ m (refusal (goal.at.returns-then-refusal-ne0 c).After-delete_refusal-refusal) c.if-refusal-ne0.true)
+returns-then-refusal-ne0 c = (
+  c.requires.sound,
+  λ m. unchanged _ _ m (refusal (held c.args.state.now) c.args.id _ _ _ c.cq_exists.ensures c.is_named.ensures
+      c.delete_refusal-refusal.ensures) c.if-refusal-ne0.true,
+)
 
 pub put_cq-requires : goal.put_cq-requires
-put_cq-requires c =
-    (omega (arith, (known (goal.at.put_cq-requires c).Else-refusal-ne0).id_low), c.requires.sound)
+put_cq-requires c = (
+  omega (
+    arith,
+    (deletable_cq _ _ (sym (refusal (held c.args.state.now) c.args.id _ _ _ c.cq_exists.ensures c.is_named.ensures
+        c.delete_refusal-refusal.ensures) ∙ c.if-refusal-ne0.false)).id_low,
+  ),
+  c.requires.sound,
+)
 
 pub returns : goal.returns
 unfolding delete_cq
 returns c =
-    let p = c.put_cq.ensures in
-    (p.sound, λ m. changed _ _ m (refusal (goal.at.returns c).After-delete_refusal-refusal) c.if-refusal-ne0.false (p.is ∙ rw c.no_ring-ring.ensures))
+    let p = c.put_cq.ensures in (
+      p.sound,
+      λ m. changed _ _ m (refusal (held c.args.state.now) c.args.id _ _ _ c.cq_exists.ensures c.is_named.ensures
+          c.delete_refusal-refusal.ensures) c.if-refusal-ne0.false (p.is ∙ rw c.no_ring-ring.ensures),
+    )

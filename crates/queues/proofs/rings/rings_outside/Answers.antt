@@ -1,28 +1,12 @@
 -- `rings_outside` meets its contract. The loop's invariant: no ring passed ends past the memory; the measure is how many ids
 -- are left. Assumes nothing.
-use Prim.Native.Nat.{ℕ, ◌-◌}
-use mathlib.Core.Bool.{Bool}
-use mathlib.Core.Path.{◌≡◌, ◌∙◌}
+use mathlib.Core.Path.{◌∙◌}
 use native.Mathlib.Omega.{arith}
-use Rattle.controller.specs.Rings.{either_ring, some_ring, ends_past, outside}
+use Rattle.controller.specs.Rings.{some_ring, ends_past, outside}
 use Rattle.store.specs.Held.{held}
 use Rattle.queues.proofs.Scans.{begins, goes_on, found, ends}
 use Rattle.queues.proofs.Bounds.{sq_passes, either_is}
 use Rattle.queues.proofs.rings.rings_outside.Goals as goal
-use Rattle.queues.proofs.rings.rings_outside.Goals.{After-ring_outside-in-loop-i, In-loop-i}
-
--- the test, and what the code finds of an id
-abbrev test :
-    In-loop-i → ℕ → Bool
-test c =
-    let a = c.args in either_ring (held a.state.now) (ends_past a.n)
-
-either :
-    (c : After-ring_outside-in-loop-i) → test c.before.before.before.before.before.before.before c.loop-i.i ≡ c.ring_outside-in-loop-i.result
-either c =
-    let a = c.args in
-    either_is (held a.state.now) (ends_past a.n) _ c.sq_at-sq.ensures c.ring_outside.ensures c.if-ring_outside.false
-    c.cq_at-cq.ensures c.ring_outside-in-loop-i.ensures
 
 pub returns-then-ring_outside : goal.returns-then-ring_outside
 unfolding outside some_ring
@@ -34,11 +18,15 @@ returns-then-ring_outside c =
 pub returns-then-ring_outside-2 : goal.returns-then-ring_outside-2
 unfolding outside some_ring
 returns-then-ring_outside-2 c =
-    found 16 _ _ (omega arith) (either (goal.at.returns-then-ring_outside-2 c).After-ring_outside-in-loop-i ∙ c.if-ring_outside-2.true)
+    found 16 _ _ (omega arith) (either_is (held c.args.state.now) (ends_past c.args.n) _ c.sq_at-sq.ensures c.ring_outside.ensures
+    c.if-ring_outside.false
+    c.cq_at-cq.ensures c.ring_outside-in-loop-i.ensures ∙ c.if-ring_outside-2.true)
 
 pub loop-i-preserved : goal.loop-i-preserved
 loop-i-preserved c =
-    goes_on 16 _ c.loop-i.inv (omega arith) (either (goal.at.loop-i-preserved c).After-ring_outside-in-loop-i ∙ c.if-ring_outside-2.false)
+    goes_on 16 _ c.loop-i.invariant (omega arith) (either_is (held c.args.state.now) (ends_past c.args.n) _ c.sq_at-sq.ensures
+    c.ring_outside.ensures c.if-ring_outside.false
+    c.cq_at-cq.ensures c.ring_outside-in-loop-i.ensures ∙ c.if-ring_outside-2.false)
 
 pub returns : goal.returns
 unfolding outside some_ring
