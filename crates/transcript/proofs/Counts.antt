@@ -1,5 +1,5 @@
 -- A record, counted, case by case. Assumes nothing.
-use Rattle.std.proofs.Common.{◌≡◌, ℕ, ◌≤◌, length, get_or, set, sym, eq-eqb, ne_eqb}
+use Rattle.std.proofs.Common.{◌≡◌, ℕ, ◌≤◌, length, get_or, set, eq-eqb, ne_eqb}
 use lib.Seq.{set_out}
 use Rattle.rules.specs.Rules.{pick}
 use Rattle.refusals.specs.Meaning.{is_of_record}

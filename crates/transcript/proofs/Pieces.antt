@@ -1,5 +1,5 @@
 -- The records that are left of a piece, from a place on. Assumes nothing.
-use Rattle.std.proofs.Common.{◌≡◌, ℕ, ◌+◌, ◌-◌, ◌<◌, ◌≤◌, List, [], ◌∷◌, ◌++◌, length, take, drop, sym, refl, ap, ◌∙◌, ⊎_elim, arith, length-drop, take_all, drop-drop}
+use Rattle.std.proofs.Common.{◌≡◌, ℕ, ◌+◌, ◌-◌, ◌<◌, ◌≤◌, List, [], ◌∷◌, ◌++◌, length, take, drop, sym, ap, ◌∙◌, ⊎_elim, arith, length-drop, take_all, drop-drop}
 use native.Mathlib.Nat.{sub-zero}
 use Rattle.rules.proofs.Tests.{lt_or_ge}
 use Rattle.le.specs.Le.{le_at}
@@ -10,7 +10,7 @@ use Rattle.trace.proofs.Fields.{le_at_part}
 use Rattle.transcript.specs.declared.summary.Tally.{Tally}
 use Rattle.transcript.specs.Record.{refusal_of, record_line}
 use Rattle.transcript.specs.Tally.{counted}
-use Rattle.transcript.specs.Piece.{answered, tallied, told, piece_text, piece_tally}
+use Rattle.transcript.specs.Piece.{answered, tallied, told}
 
 abbrev pub left : List ℕ → List ℕ → ℕ → List (List ℕ × List ℕ)
 left trace answers place = answered (records_from trace place) (drop place answers)

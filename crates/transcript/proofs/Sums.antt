@@ -1,5 +1,5 @@
 -- The texts of the summary, case by case, and row by row. Assumes nothing.
-use Rattle.std.proofs.Common.{◌≡◌, ℕ, ◌+◌, ◌<◌, ◌≤◌, List, [], ◌∷◌, ◌++◌, length, get_or, drop, add-one, drop_of_length-le, drop-cons, le-ltb, lt-ltb, ne_eqb}
+use Rattle.std.proofs.Common.{◌≡◌, ℕ, ◌+◌, ◌<◌, ◌≤◌, List, [], ◌++◌, length, get_or, drop, add-one, drop_of_length-le, drop-cons, le-ltb, lt-ltb, ne_eqb}
 use Rattle.print.specs.Text.{bytes, line_end}
 use Rattle.refusals.specs.Meaning.{meaning}
 use Rattle.refusals.specs.Named.{pair}

@@ -1,5 +1,5 @@
 -- The texts of a record's line, case by case. Assumes nothing.
-use Rattle.std.proofs.Common.{◌≡◌, ℕ, ◌+◌, ◌<◌, ◌≤◌, List, [], ◌++◌, length, sym, refl, ap, ◌∙◌, arith, take_all, le-ltb, lt-ltb, ne_eqb}
+use Rattle.std.proofs.Common.{◌≡◌, ℕ, ◌+◌, ◌<◌, ◌≤◌, List, [], ◌++◌, length, sym, ap, ◌∙◌, arith, take_all, le-ltb, lt-ltb, ne_eqb}
 use Rattle.rules.specs.Rules.{settle}
 use Rattle.rules.proofs.Tables.{settle_refused, settle_accepted}
 use Rattle.le.specs.Le.{le_at}

@@ -3,7 +3,6 @@ use Rattle.std.proofs.Common.{◌≡◌, ℕ, suc, ◌+◌, ◌<◌, ◌≤◌, 
 use Rattle.rules.specs.Rules.{pick, settle, outside_of}
 use Rattle.rules.proofs.Tests.{bool_cases, lt_or_ge, clash, in_range, below_range, above_range}
 use Rattle.trace.specs.Record.{sent, target, value, any_set, spares, record_in}
-use Rattle.trace.specs.declared.Record.{Record}
 use Rattle.trace.specs.declared.Record.TheVariants as R
 use Rattle.transcript.specs.Record.{first_set, wrong_byte, Wrong}
 

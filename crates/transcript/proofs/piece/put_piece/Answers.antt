@@ -1,0 +1,92 @@
+-- `put_piece` meets its contract. Assumes nothing.
+use Rattle.std.proofs.Common.{◌+◌, ◌-◌, ◌<◌, ◌≤◌, length, take, drop, sym, refl, ap, ◌∙◌, arith, length-drop, length-take}
+use Rattle.trace.specs.Trace.{next_at}
+use Rattle.print.proofs.Puts.{put_as}
+use Rattle.transcript.specs.Record.{record_line}
+use Rattle.transcript.specs.Piece.{tallied, told}
+use Rattle.transcript.proofs.SoFar.{none_yet, one_more, room_more, all_put}
+use Rattle.transcript.proofs.Pieces.{left, left_all, told_none, tallied_none, told_next, tallied_next}
+use Rattle.transcript.proofs.piece.put_piece.Goals as goal
+use Rattle.transcript.proofs.piece.put_piece.Goals.{Start}
+
+pub loop-at-init : goal.loop-at-init
+loop-at-init c =
+    (refl, none_yet _ _ _, refl)
+
+pub overflow_add-next : goal.overflow_add-next
+overflow_add-next c =
+    omega arith
+
+pub overflow_add-at : goal.overflow_add-at
+overflow_add-at c =
+    omega arith
+
+pub get8-requires : goal.get8-requires
+get8-requires c =
+    omega arith
+
+pub slice_bounds-put_record-count : goal.slice_bounds-put_record-count
+unfolding next_at
+slice_bounds-put_record-count c =
+    omega (arith, c.next_at-end.ensures)
+
+pub slice_bounds-put_record-start : goal.slice_bounds-put_record-start
+unfolding next_at
+slice_bounds-put_record-start c =
+    omega (arith, c.next_at-end.ensures)
+
+pub slice_bounds-put_record-end : goal.slice_bounds-put_record-end
+unfolding next_at
+slice_bounds-put_record-end c =
+    omega (arith, c.next_at-end.ensures)
+
+pub slice_bounds-put_record-count-in-loop-at : goal.slice_bounds-put_record-count-in-loop-at
+slice_bounds-put_record-count-in-loop-at c =
+    omega arith
+
+pub put_record-to-requires : goal.put_record-to-requires
+unfolding next_at
+put_record-to-requires c =
+    let trace = c.args.trace.now in
+    let answers = c.args.answers.now in
+    let l = c.loop-at in
+    let h : l.at < length trace = omega arith in
+    let end = c.next_at-end.result in
+    let u = c.with-after.result in
+    let bytes = take (end - l.at) (drop l.at trace) in
+    let answer = take (l.at + 16 - l.at) (drop l.at answers) in
+    let room : 0 + length (told c.args.tally (left trace answers 0)) ≤ length c.args.out.now =
+    omega (arith, c.requires.answers_in_bounds, ap (λ xs. length (told c.args.tally xs)) (left_all trace answers)) in
+    record {
+      bytes_len_bound = (
+        omega (arith, length-take (end - l.at) (drop l.at trace), c.next_at-end.ensures),
+        omega (arith, length-take (l.at + 16 - l.at) (drop l.at answers), length-drop l.at answers, c.requires.trace_len_bound.1, c.requires.trace_len_bound.0),
+      );
+      answer_in_bounds = room_more l.invariant.1 (record_line u.records bytes answer) (told u (left trace answers (l.at + 16)))
+          (told_next trace answers l.at h c.get8.ensures.0 c.next_at-end.ensures l.after c.with-after.ensures) room;
+    }
+
+pub loop-at-smaller : goal.loop-at-smaller
+loop-at-smaller c =
+    omega arith
+
+pub loop-at-preserved : goal.loop-at-preserved
+loop-at-preserved c =
+    let s = c.args in
+    let l = c.loop-at in
+    let h : l.at < length s.trace.now = omega arith in (
+      omega arith,
+      one_more l.invariant.1 (told_next s.trace.now s.answers.now l.at h c.get8.ensures.0 c.next_at-end.ensures l.after c.with-after.ensures) c.put_record-to.ensures,
+      sym (tallied_next s.trace.now s.answers.now l.at h c.get8.ensures.0 c.next_at-end.ensures l.after c.with-after.ensures) ∙ l.invariant.2,
+    )
+
+pub returns : goal.returns
+returns c =
+    let s = c.args in
+    let l = c.loop-at in
+    let h : length s.trace.now ≤ l.at = omega arith in
+    let all = left_all s.trace.now s.answers.now in
+    record {
+      put = put_as (all_put l.invariant.1 (told_none s.trace.now s.answers.now l.at l.after h)) (ap (told s.tally) all);
+      tally_value = sym (tallied_none s.trace.now s.answers.now l.at l.after h) ∙ l.invariant.2 ∙ ap (tallied s.tally) all;
+    }
