@@ -1,5 +1,23 @@
 -- Laws of the bytes that are gathered of a line. Assumes nothing.
-use Rattle.std.proofs.Common.{◌≡◌, ℕ, ◌+◌, ◌-◌, ◌≤◌, List, ◌++◌, length, take, sym, ap, ◌∙◌, arith, length-take, length-take-le, take_all, take-take}
+use Rattle.std.proofs.Common.{
+  ◌≡◌,
+  ℕ,
+  ◌+◌,
+  ◌-◌,
+  ◌≤◌,
+  List,
+  ◌++◌,
+  length,
+  take,
+  sym,
+  ap,
+  ◌∙◌,
+  arith,
+  length-take,
+  length-take-le,
+  take_all,
+  take-take,
+}
 use lib.Seq.{take-append-add}
 use Rattle.print.specs.Put.{Put}
 use Rattle.print.proofs.Puts.{put_then, put_as}

@@ -1,5 +1,33 @@
 -- Laws of the steps, by their cases. Assumes nothing.
-use Rattle.std.proofs.Common.{◌≡◌, ℕ, ◌+◌, ◌-◌, ◌<◌, ◌≤◌, Bool, false, not, ◌&&◌, eqb, ltb, List, ◌++◌, length, get_or, take, sym, ap, ◌∙◌, subst, arith, length-drop, length-take, length-take-le, le-ltb, lt-ltb}
+use Rattle.std.proofs.Common.{
+  ◌≡◌,
+  ℕ,
+  ◌+◌,
+  ◌-◌,
+  ◌<◌,
+  ◌≤◌,
+  Bool,
+  false,
+  not,
+  ◌&&◌,
+  eqb,
+  ltb,
+  List,
+  ◌++◌,
+  length,
+  get_or,
+  take,
+  sym,
+  ap,
+  ◌∙◌,
+  subst,
+  arith,
+  length-drop,
+  length-take,
+  length-take-le,
+  le-ltb,
+  lt-ltb,
+}
 use Rattle.rules.specs.Rules.{pick}
 use Rattle.rules.proofs.Cases.{pick_cases}
 use Rattle.print.specs.Put.{Put}

@@ -119,7 +119,8 @@ unfolding fixed_in
 fixed_within [] ws i = omega arith
 fixed_within (m ∷ ms) [] i = omega arith
 fixed_within (m ∷ ms) (w ∷ ws) i =
-    one_within (λ j. get_or (m ∷ ms) j 0) (up_to m (number_in w)) (fixed_in ms ws) (λ n. up_to_most m n (number_in w)) (fixed_within ms ws) i
+    one_within (λ j. get_or (m ∷ ms) j 0) (up_to m (number_in w)) (fixed_in ms ws) (λ n. up_to_most m n (number_in w))
+    (fixed_within ms ws) i
 
 pub numbers_within : (m : ℕ) (ws : List (List ℕ)) (i : ℕ) → get_or (numbers_in m ws).list i 0 ≤ m
 unfolding of_each

@@ -44,13 +44,15 @@ module _ {line : List ℕ} {place start end : ℕ} (n : NextWord line place star
 
   module _ (h : start ≡ end → ⊥) where
     pub each_next : (f : List ℕ → Values)
-        → of_each f (words_of (drop place line)) ≡ and_then (f (take (end - start) (drop start line))) (of_each f (words_of (drop end line)))
+        → of_each f (words_of (drop place line))
+        ≡ and_then (f (take (end - start) (drop start line))) (of_each f (words_of (drop end line)))
     unfolding of_each
     each_next f = rw (words_next n h)
 
     pub fixed_next : (ms : List ℕ) (i : ℕ) → i < length ms
         → fixed_in (drop i ms) (words_of (drop place line))
-        ≡ and_then (number_up_to (get_or ms i 0) (take (end - start) (drop start line))) (fixed_in (drop (i + 1) ms) (words_of (drop end line)))
+        ≡ and_then (number_up_to (get_or ms i 0) (take (end - start) (drop start line)))
+        (fixed_in (drop (i + 1) ms) (words_of (drop end line)))
     unfolding fixed_in
     fixed_next ms i l = rw (words_next n h, drop-cons ms i 0 l, add-one i)
 

@@ -1,5 +1,27 @@
 -- The records that are left of a piece, from a place on. Assumes nothing.
-use Rattle.std.proofs.Common.{◌≡◌, ℕ, ◌+◌, ◌-◌, ◌<◌, ◌≤◌, List, [], ◌∷◌, ◌++◌, length, take, drop, sym, ap, ◌∙◌, ⊎_elim, arith, length-drop, take_all, drop-drop}
+use Rattle.std.proofs.Common.{
+  ◌≡◌,
+  ℕ,
+  ◌+◌,
+  ◌-◌,
+  ◌<◌,
+  ◌≤◌,
+  List,
+  [],
+  ◌∷◌,
+  ◌++◌,
+  length,
+  take,
+  drop,
+  sym,
+  ap,
+  ◌∙◌,
+  ⊎_elim,
+  arith,
+  length-drop,
+  take_all,
+  drop-drop,
+}
 use native.Mathlib.Nat.{sub-zero}
 use Rattle.rules.proofs.Tests.{lt_or_ge}
 use Rattle.le.specs.Le.{le_at}

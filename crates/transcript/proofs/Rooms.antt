@@ -1,5 +1,24 @@
 -- The room that a caller needs. Assumes nothing.
-use Rattle.std.proofs.Common.{◌≡◌, ℕ, ◌+◌, ◌*◌, ◌≤◌, Bool, eqb, ltb, List, [], ◌∷◌, ◌++◌, length, drop, refl, arith, length-append, length-drop}
+use Rattle.std.proofs.Common.{
+  ◌≡◌,
+  ℕ,
+  ◌+◌,
+  ◌*◌,
+  ◌≤◌,
+  Bool,
+  eqb,
+  ltb,
+  List,
+  [],
+  ◌∷◌,
+  ◌++◌,
+  length,
+  drop,
+  refl,
+  arith,
+  length-append,
+  length-drop,
+}
 use Rattle.rules.specs.Rules.{pick, settle}
 use Rattle.rules.proofs.Cases.{pick_cases}
 use Rattle.le.specs.Le.{le_at}

@@ -1,5 +1,23 @@
 -- The texts of the summary, case by case, and row by row. Assumes nothing.
-use Rattle.std.proofs.Common.{◌≡◌, ℕ, ◌+◌, ◌<◌, ◌≤◌, List, [], ◌++◌, length, get_or, drop, add-one, drop_of_length-le, drop-cons, le-ltb, lt-ltb, ne_eqb}
+use Rattle.std.proofs.Common.{
+  ◌≡◌,
+  ℕ,
+  ◌+◌,
+  ◌<◌,
+  ◌≤◌,
+  List,
+  [],
+  ◌++◌,
+  length,
+  get_or,
+  drop,
+  add-one,
+  drop_of_length-le,
+  drop-cons,
+  le-ltb,
+  lt-ltb,
+  ne_eqb,
+}
 use Rattle.print.specs.Text.{bytes, line_end}
 use Rattle.refusals.specs.Meaning.{meaning}
 use Rattle.refusals.specs.Named.{pair}
@@ -31,6 +49,7 @@ module _ (counts : List ℕ) (n : ℕ) where
   unfolding rows_text
   rows_end h = rw (drop_of_length-le counts h)
 
-  pub rows_next : n < length counts → rows_text n (drop n counts) ≡ row_text n (get_or counts n 0) ++ rows_text (n + 1) (drop (n + 1) counts)
+  pub rows_next : n < length counts
+      → rows_text n (drop n counts) ≡ row_text n (get_or counts n 0) ++ rows_text (n + 1) (drop (n + 1) counts)
   unfolding rows_text
   rows_next h = rw (drop-cons counts n 0 h, add-one n)

@@ -1,5 +1,32 @@
 -- The byte that is wrong in a record that asks for no call. Assumes nothing.
-use Rattle.std.proofs.Common.{◌≡◌, ℕ, suc, ◌+◌, ◌<◌, ◌≤◌, Bool, true, false, eqb, List, length, get_or, drop, sym, refl, ap, ◌∙◌, ⊎_elim, add-one, arith, drop_of_length-le, drop-cons, le-ltb, eq-eqb, ne_eqb}
+use Rattle.std.proofs.Common.{
+  ◌≡◌,
+  ℕ,
+  suc,
+  ◌+◌,
+  ◌<◌,
+  ◌≤◌,
+  Bool,
+  true,
+  false,
+  eqb,
+  List,
+  length,
+  get_or,
+  drop,
+  sym,
+  refl,
+  ap,
+  ◌∙◌,
+  ⊎_elim,
+  add-one,
+  arith,
+  drop_of_length-le,
+  drop-cons,
+  le-ltb,
+  eq-eqb,
+  ne_eqb,
+}
 use Rattle.rules.specs.Rules.{pick, settle, outside_of}
 use Rattle.rules.proofs.Tests.{bool_cases, lt_or_ge, clash, in_range, below_range, above_range}
 use Rattle.trace.specs.Record.{sent, target, value, any_set, spares, record_in}

@@ -28,7 +28,8 @@ pub returns-then-is_at : goal.returns-then-is_at
 unfolding commands vocabulary
 returns-then-is_at c =
     let h : c.loop-i.i < 27 = omega arith in
-    ap N.Command (command_at c.loop-i.i) ∙ sym (row_named c.args.word.now c.loop-i.i h (sym c.is_at.ensures ∙ c.if-is_at.true)) ∙ c.loop-i.invariant.1
+    ap N.Command (command_at c.loop-i.i) ∙ sym (row_named c.args.word.now c.loop-i.i h (sym c.is_at.ensures ∙ c.if-is_at.true))
+    ∙ c.loop-i.invariant.1
 
 pub overflow_add-i : goal.overflow_add-i
 overflow_add-i c =

@@ -16,9 +16,6 @@ pub loop-count-init : goal.loop-count-init
 loop-count-init c =
     (omega arith, omega arith, refl, begun _ _ _)
 
--- no goal has this name today
--- same_length c = put_length c.before.before.before.loop.invariant.3.put
-
 pub returns-then-start-end : goal.returns-then-start-end
 returns-then-start-end c =
     let l = c.loop-count in
@@ -30,15 +27,6 @@ returns-then-start-end c =
 pub bounds-largest-count : goal.bounds-largest-count
 bounds-largest-count c =
     omega arith
-
--- no goal has this name today
--- enum-known-n c = search rules
-
--- no goal has this name today
--- enum_told c = search rules
-
--- no goal has this name today
--- same-length-2 c = put_length c.before.before.before.before.before.before.before.before.loop.invariant.3.put
 
 pub returns-in_default : goal.returns-in_default
 returns-in_default c =
@@ -73,9 +61,6 @@ loop-count-preserved c =
     let n = words_next w.ensures c.if-start-end.false in
     let more = one_more _ _ (left_as l.invariant.3 f) _ (sym v.ensures ∙ c.in-Is.is) in
     (omega arith, w.ensures.inside, drop_next _ _ _ l.count (l.invariant.2 ∙ n), more)
-
--- no goal has this name today
--- same-length-3 c = put_length c.before.loop.invariant.3.put
 
 pub returns : goal.returns
 returns c =

@@ -10,7 +10,8 @@ use Rattle.parse.proofs.arguments.store_fixed.Given as goal
 abbrev pub invariant-loop-count : goal.invariant-loop-count
 invariant-loop-count l =
     (l.count ≤ length l.largest) × (l.from ≤ length l.line) × (drop l.count (words_of (drop l.at l.line)) ≡ words_of (drop l.from l.line))
-    × SoFar (fixed_in l.largest (words_of (drop l.at l.line))) l.initial.numbers 0 l.numbers l.count (fixed_in (drop l.count l.largest) (words_of (drop l.from l.line)))
+    × SoFar (fixed_in l.largest (words_of (drop l.at l.line))) l.initial.numbers 0 l.numbers l.count
+    (fixed_in (drop l.count l.largest) (words_of (drop l.from l.line)))
 
 abbrev pub decreases-loop-count : goal.decreases-loop-count
 decreases-loop-count l =

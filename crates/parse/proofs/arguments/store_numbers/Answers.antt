@@ -15,23 +15,11 @@ pub loop-at-init : goal.loop-at-init
 loop-at-init c =
     (omega arith, c.requires.1, begun _ _ _)
 
--- no goal has this name today
--- same_length c = put_length c.before.before.loop.invariant.2.put
-
 pub returns-then-start-stop : goal.returns-then-start-stop
 returns-then-start-stop c =
     let w = c.next_word-w in
     let o = each_over w.ensures (number_up_to c.args.largest) c.if-start-stop.true in
     finished (left_as c.loop-at.invariant.2 o) refl
-
--- no goal has this name today
--- enum-known-n c = search rules
-
--- no goal has this name today
--- enum_told c = search rules
-
--- no goal has this name today
--- same-length-2 c = put_length c.before.before.before.before.before.before.loop.invariant.2.put
 
 pub returns-in_default : goal.returns-in_default
 returns-in_default c =

@@ -16,9 +16,6 @@ pub loop-at-init : goal.loop-at-init
 loop-at-init c =
     (omega arith, omega arith, begun _ _ _)
 
--- no goal has this name today
--- same_length c = put_length c.before.before.loop.invariant.2.put
-
 pub returns-then-start-stop : goal.returns-then-start-stop
 returns-then-start-stop c =
     let w = c.next_word-w in
@@ -29,11 +26,6 @@ pub store_word-b-requires : goal.store_word-b-requires
 store_word-b-requires c =
     let l = c.loop-at in
     omega (arith, put_length l.invariant.2.put, c.requires, c.next_word-w.ensures)
-
--- no goal has this name today
--- same-length-2 c =     let l = c.before.before.before.before.before.before.before.before.before.loop in
---     let t = c.before.before.before.before.Store-word in
---     put_length t.ensures.put ∙ put_length l.invariant.2.put
 
 pub returns-then-not-b : goal.returns-then-not-b
 returns-then-not-b c =

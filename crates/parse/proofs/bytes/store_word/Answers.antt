@@ -17,9 +17,6 @@ pub overflow_sub-word : goal.overflow_sub-word
 overflow_sub-word c =
     omega arith
 
--- no goal has this name today
--- same_length c = put_length c.before.before.loop.invariant.2.put
-
 pub returns-then-word-i-lt2 : goal.returns-then-word-i-lt2
 returns-then-word-i-lt2 c =
     let w = c.args.word.now in
@@ -38,15 +35,6 @@ overflow_add-i c =
 pub bounds-word-i-in-loop-i : goal.bounds-word-i-in-loop-i
 bounds-word-i-in-loop-i c =
     omega arith
-
--- no goal has this name today
--- enum-known-n c = search rules
-
--- no goal has this name today
--- enum_told c = search rules
-
--- no goal has this name today
--- same-length-2 c = put_length c.before.before.before.before.before.before.before.loop.invariant.2.put
 
 pub returns-in_default : goal.returns-in_default
 returns-in_default c =
@@ -86,9 +74,6 @@ loop-i-preserved c =
     let h : 2 ≤ length w - l.i = omega arith in
     let s = left_as l.invariant.2 (bytes_next w l.i h) in
     (omega arith, omega arith, one_more _ _ s _ (sym v.ensures ∙ c.in-Is.is))
-
--- no goal has this name today
--- same-length-3 c = put_length c.before.loop.invariant.2.put
 
 pub returns : goal.returns
 returns c =

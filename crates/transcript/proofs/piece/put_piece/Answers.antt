@@ -60,7 +60,7 @@ put_record-to-requires c =
     record {
       bytes_len_bound = (
         omega (arith, length-take (end - l.at) (drop l.at trace), c.next_at-end.ensures),
-        omega (arith, length-take (l.at + 16 - l.at) (drop l.at answers), length-drop l.at answers, c.requires.trace_len_bound.1, c.requires.trace_len_bound.0),
+        omega (arith, length-take (l.at + 16 - l.at) (drop l.at answers), length-drop l.at answers, c.requires.trace_len_bound),
       );
       answer_in_bounds = room_more l.invariant.1 (record_line u.records bytes answer) (told u (left trace answers (l.at + 16)))
           (told_next trace answers l.at h c.get8.ensures.0 c.next_at-end.ensures l.after c.with-after.ensures) room;
@@ -76,8 +76,11 @@ loop-at-preserved c =
     let l = c.loop-at in
     let h : l.at < length s.trace.now = omega arith in (
       omega arith,
-      one_more l.invariant.1 (told_next s.trace.now s.answers.now l.at h c.get8.ensures.0 c.next_at-end.ensures l.after c.with-after.ensures) c.put_record-to.ensures,
-      sym (tallied_next s.trace.now s.answers.now l.at h c.get8.ensures.0 c.next_at-end.ensures l.after c.with-after.ensures) ∙ l.invariant.2,
+      one_more l.invariant.1
+          (told_next s.trace.now s.answers.now l.at h c.get8.ensures.0 c.next_at-end.ensures l.after c.with-after.ensures)
+          c.put_record-to.ensures,
+      sym (tallied_next s.trace.now s.answers.now l.at h c.get8.ensures.0 c.next_at-end.ensures l.after c.with-after.ensures)
+          ∙ l.invariant.2,
     )
 
 pub returns : goal.returns

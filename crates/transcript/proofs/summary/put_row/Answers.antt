@@ -25,14 +25,16 @@ put_pair-to-requires c =
     let a = c.args in
     let said = meaning a.number ++ line_end in
     let two = pair (bytes " ") a.number (bytes " ") a.count in
-    room_first two (bytes "  " ++ said) _ _ (room_then (two ++ (bytes "  " ++ said)) c.put_margin-margin.ensures (room_as (row_some _ _ c.if-count-eq0.false) _ _ c.requires))
+    let room = room_as (row_some _ _ c.if-count-eq0.false) _ _ c.requires in
+    room_first two (bytes "  " ++ said) _ _ (room_then (two ++ (bytes "  " ++ said)) c.put_margin-margin.ensures room)
 
 pub put-before-requires : goal.put-before-requires
 put-before-requires c =
     let a = c.args in
     let said = meaning a.number ++ line_end in
     let two = pair (bytes " ") a.number (bytes " ") a.count in
-    let r = room_then (two ++ (bytes "  " ++ said)) c.put_margin-margin.ensures (room_as (row_some _ _ c.if-count-eq0.false) _ _ c.requires) in
+    let room = room_as (row_some _ _ c.if-count-eq0.false) _ _ c.requires in
+    let r = room_then (two ++ (bytes "  " ++ said)) c.put_margin-margin.ensures room in
     room_first (bytes "  ") said _ _ (room_then (bytes "  " ++ said) c.put_pair-to.ensures r)
 
 pub put_meaning-end-requires : goal.put_meaning-end-requires
@@ -40,7 +42,8 @@ put_meaning-end-requires c =
     let a = c.args in
     let said = meaning a.number ++ line_end in
     let two = pair (bytes " ") a.number (bytes " ") a.count in
-    let r = room_then (two ++ (bytes "  " ++ said)) c.put_margin-margin.ensures (room_as (row_some _ _ c.if-count-eq0.false) _ _ c.requires) in
+    let room = room_as (row_some _ _ c.if-count-eq0.false) _ _ c.requires in
+    let r = room_then (two ++ (bytes "  " ++ said)) c.put_margin-margin.ensures room in
     let r2 = room_then (bytes "  " ++ said) c.put_pair-to.ensures r in
     room_first (meaning a.number) line_end _ _ (room_then said c.put-before.ensures r2)
 
@@ -49,7 +52,8 @@ put_end-requires c =
     let a = c.args in
     let said = meaning a.number ++ line_end in
     let two = pair (bytes " ") a.number (bytes " ") a.count in
-    let r = room_then (two ++ (bytes "  " ++ said)) c.put_margin-margin.ensures (room_as (row_some _ _ c.if-count-eq0.false) _ _ c.requires) in
+    let room = room_as (row_some _ _ c.if-count-eq0.false) _ _ c.requires in
+    let r = room_then (two ++ (bytes "  " ++ said)) c.put_margin-margin.ensures room in
     let r2 = room_then (bytes "  " ++ said) c.put_pair-to.ensures r in
     room_then line_end c.put_meaning-end.ensures (room_then said c.put-before.ensures r2)
 
