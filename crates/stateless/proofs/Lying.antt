@@ -2,8 +2,7 @@
 use mathlib.Core.Path.{◌≡◌, refl, sym, ap, ◌∙◌}
 use mathlib.Core.Bool.{true, false}
 use mathlib.Core.List.{List, [], ◌++◌}
-use Prim.Native.Nat.{ℕ, ◌+◌, ◌-◌, ◌≤◌, ◌<◌}
-use native.Mathlib.Omega.{arith}
+use Prim.Native.Nat.{ℕ, ◌-◌, ◌≤◌, ◌<◌}
 use lib.ListN.{length, take, drop, get_or}
 use lib.Seq.{drop-drop}
 use borrow.Author.Tests.{lt-ltb, le-ltb}
@@ -12,7 +11,7 @@ use Rattle.controller.specs.Controller.{Controller}
 use Rattle.language.specs.declared.command.OnPart.{OnPart}
 use Rattle.language.specs.declared.command.OnPart.TheVariants as P
 use Rattle.language.specs.Vocabulary.{on_part_form}
-use Rattle.language.specs.Replies.{Said, say, bad, Reply, reply}
+use Rattle.language.specs.Replies.{Said, say, bad, reply}
 use Rattle.language.specs.Commands.{nth, outside, on_part, parts_used, peeked}
 use Rattle.stateless.specs.Leaving.{firsts}
 

@@ -1,5 +1,5 @@
 -- Laws of values that are poked. Assumes nothing.
-use mathlib.Core.Path.{◌≡◌, refl, sym, ap, ◌∙◌}
+use mathlib.Core.Path.{◌≡◌, sym, ap, ◌∙◌}
 use mathlib.Core.Bool.{true}
 use mathlib.Core.List.{List, [], ◌∷◌}
 use mathlib.Core.Logic.{⊎_elim}
@@ -7,7 +7,6 @@ use Prim.Native.Nat.{ℕ, ◌+◌, ◌-◌, ◌*◌, ◌/◌, ◌≤◌, ◌<◌
 use native.Mathlib.Nat.{div-lt_iff_lt-mul, mul_comm}
 use native.Mathlib.Omega.{arith}
 use lib.ListN.{length}
-use lib.Seq.{sets}
 use Rattle.le.specs.Le.{le}
 use Rattle.le.specs.Memory.{Memory, put}
 use Rattle.le.proofs.Numbers.{length_le}
@@ -17,7 +16,7 @@ use Rattle.rules.proofs.Tests.{lt_or_ge}
 use Rattle.print.specs.Text.{each}
 use Rattle.print.specs.Put.{Put}
 use Rattle.print.proofs.Texts.{each_length}
-use Rattle.language.specs.Replies.{Said, bad, told, Reply, reply}
+use Rattle.language.specs.Replies.{Said, bad, told, reply}
 use Rattle.language.specs.Commands.{outside, poked}
 use Rattle.stateless.proofs.Lying.{begins_out, ends_out, lies_in}
 

@@ -1,13 +1,12 @@
 -- Laws of answers: their room, and what is printed of a reply. Assumes nothing.
-use mathlib.Core.Path.{◌≡◌, refl, sym, ap, subst, ◌∙◌}
+use mathlib.Core.Path.{◌≡◌, refl, subst}
 use mathlib.Core.Bool.{true, false}
-use mathlib.Core.List.{List, [], ◌∷◌, ◌++◌, append_assoc}
-use Prim.Native.Nat.{ℕ, zero, suc, ◌+◌, ◌*◌, ◌≤◌, ◌<◌}
+use mathlib.Core.List.{List, [], ◌++◌}
+use Prim.Native.Nat.{ℕ, zero, suc, ◌+◌, ◌*◌, ◌≤◌}
 use native.Mathlib.Omega.{arith}
-use lib.ListN.{length, take, drop, get_or, length-append}
+use lib.ListN.{length, take, drop, length-append}
 use lib.Seq.{drop-cons}
 use Rattle.parse.specs.Line.{most_bytes}
-use Rattle.print.specs.Put.{Put}
 use Rattle.print.specs.Text.{numbers, hex_word, line_end}
 use Rattle.print.proofs.Texts.{numbers_most, hex_word_most}
 use Rattle.stateless.specs.declared.reply.Reply as short
