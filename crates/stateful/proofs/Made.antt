@@ -11,7 +11,7 @@ use Rattle.controller.specs.Controller.{Controller}
 use Rattle.controller.specs.Answers.{Answer, Outcome, done, refused, number_of, outcome}
 use Rattle.controller.specs.Calls.{Call, perform, of_number}
 use Rattle.stateless.specs.declared.reply.Reply as short
-use Rattle.language.specs.Replies.{Said, changed, Reply, reply}
+use Rattle.language.specs.Replies.{Said, changed, reply}
 use Rattle.language.specs.Commands.{calling, called}
 use Rattle.stateless.specs.Leaving.{heard, changed_reply}
 

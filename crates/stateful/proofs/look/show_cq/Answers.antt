@@ -1,0 +1,15 @@
+-- `show_cq` meets its contract. Assumes nothing.
+use native.Mathlib.Omega.{arith}
+use Rattle.language.specs.Commands.{looked}
+use Rattle.stateful.proofs.look.show_cq.Goals as goal
+
+pub returns : goal.returns
+unfolding looked
+returns c =
+    record {
+      is = rw (
+        c.bit.ensures,
+        c.cq_at-q.ensures,
+      );
+      few = omega arith;
+    }

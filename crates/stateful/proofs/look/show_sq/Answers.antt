@@ -1,0 +1,16 @@
+-- `show_sq` meets its contract. Assumes nothing.
+use native.Mathlib.Omega.{arith}
+use Rattle.language.specs.Commands.{looked}
+use Rattle.stateful.proofs.look.show_sq.Goals as goal
+
+pub returns : goal.returns
+unfolding looked
+returns c =
+    record {
+      is = rw (
+        c.bit.ensures,
+        c.bit-2.ensures,
+        c.sq_at-q.ensures,
+      );
+      few = omega arith;
+    }
