@@ -1,9 +1,9 @@
 -- Laws of commands on the memory that is lent. Assumes nothing.
-use mathlib.Core.Path.{◌≡◌, refl, sym, ap, ◌∙◌}
+use mathlib.Core.Path.{◌≡◌, sym, ap, ◌∙◌}
 use mathlib.Core.List.{List, [], ◌∷◌, ◌++◌}
 use Prim.Native.Nat.{ℕ, zero, suc, ◌-◌, ◌≤◌}
 use native.Mathlib.Omega.{arith}
-use lib.ListN.{length, take, drop, get_or, take-append-drop}
+use lib.ListN.{take, drop, get_or, take-append-drop}
 use lib.Seq.{take-nil, get_or-take}
 use Rattle.le.specs.Memory.{Memory}
 use Rattle.controller.specs.Controller.{Controller}
