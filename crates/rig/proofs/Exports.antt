@@ -16,7 +16,8 @@ use Rattle.controller.specs.Calls.{of_number}
 use Rattle.store.specs.Held.{held, Sound, Holds}
 use Rattle.replay.specs.Replay.{Ended, ended}
 use Rattle.replay.proofs.Playing.{number_is}
-use Rattle.rig.specs.Numbers.{replay_numbers, no_sq_numbers, sq_numbers, no_cq_numbers, cq_numbers, no_command_numbers, command_numbers, bit_of}
+use Rattle.rig.specs.Numbers.{replay_numbers, no_sq_numbers, sq_numbers, no_cq_numbers, cq_numbers}
+use Rattle.rig.specs.Numbers.{no_command_numbers, command_numbers, bit_of}
 
 -- ---- calls
 

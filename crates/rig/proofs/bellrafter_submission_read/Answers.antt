@@ -1,0 +1,12 @@
+-- `bellrafter_submission_read` meets its contract. Assumes nothing.
+use mathlib.Core.Path.{sym, ap, ◌∙◌}
+use Rattle.rig.specs.Answers.{submission_numbers}
+use Rattle.rig.proofs.bellrafter_submission_read.Goals as goal
+
+pub returns-in-Entry : goal.returns-in-Entry
+returns-in-Entry c =
+    ap submission_numbers (sym c.in-Entry.is ∙ c.read.ensures.value)
+
+pub returns-in-Refused : goal.returns-in-Refused
+returns-in-Refused c =
+    ap submission_numbers (sym c.in-Refused.is ∙ c.read.ensures.value)

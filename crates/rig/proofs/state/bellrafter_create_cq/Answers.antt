@@ -1,0 +1,7 @@
+-- `bellrafter_create_cq` meets its contract. Assumes nothing.
+use Rattle.rig.proofs.Exports.{numbered}
+use Rattle.rig.proofs.state.bellrafter_create_cq.Goals as goal
+
+pub returns : goal.returns
+returns c =
+    let e = c.create_cq.ensures in numbered e.0 e.1
