@@ -13,40 +13,31 @@ unfolding begun
 overflow_mul-n c =
     omega (arith, c.records_in-n.ensures)
 
-pub records_in-n-requires : goal.records_in-n-requires
-records_in-n-requires c =
-    (c.before.before.requires.sound, refused _ _ _ _ (rw (← c.records-in.ensures) c.if1.true))
-
-pub overflow_mul-n : goal.overflow_mul-n
-overflow_mul-n c =
-    (c.before.requires, begins _ _ _ _ (rw (← c.records-in.ensures) c.if1.false), refl, refl)
-
 pub returns-then-answers-n : goal.returns-then-answers-n
 returns-then-answers-n c =
-    let i = c.loop.invariant in
-    let l = c.loop-test.true in
-    (i.0, l, room_now i.1 l)
+    (c.requires.sound, refused _ _ _ _ (rw (← c.records_in-n.ensures) c.if-answers-n.true))
+
+pub loop-at-init : goal.loop-at-init
+loop-at-init c =
+    (c.requires, begins _ _ _ _ (rw (← c.records_in-n.ensures) c.if-answers-n.false), refl, refl)
 
 pub answer-requires : goal.answer-requires
 answer-requires c =
-    let st = c.before.before.before.before.before.before in
-    let n = next_inside st.args.trace.now c.loop.at c.loop-test.true in
-    omega (arith, c.next-at.ensures, n.0, n.1)
-
-pub next_at-at-requires : goal.next_at-at-requires
-next_at-at-requires c =
-    let i = c.loop.invariant in
-    let l = c.loop-test.true in
-    let e = c.answer.ensures in
-    (e.0, rw (c.next-at.ensures, e.1.0, e.1.1, e.1.2) (goes_on i.1 l), search rules, search rules)
+    let i = c.loop-at.invariant in
+    let l = c.loop-at-test.true in
+    (i.0, l, room_now i.1 l)
 
 pub loop-at-smaller : goal.loop-at-smaller
 loop-at-smaller c =
-    c.loop-at.invariant.2
+    let n = next_inside c.args.trace.now c.loop-at.at c.loop-at-test.true in
+    omega (arith, c.next_at-at.ensures, n.0, n.1)
 
 pub loop-at-preserved : goal.loop-at-preserved
 loop-at-preserved c =
-    c.loop-at.invariant.3
+    let i = c.loop-at.invariant in
+    let l = c.loop-at-test.true in
+    let e = c.answer.ensures in
+    (e.reached, rw (c.next_at-at.ensures, e.fact.0, e.fact.1, e.fact.2) (goes_on i.1 l), search rules, search rules)
 
 pub returns : goal.returns
 returns c =
