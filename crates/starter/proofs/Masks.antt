@@ -105,7 +105,8 @@ module _ (c : Controller) (h : (i : ℕ) → (sq_at c i).class ≤ 3) where
   pub apart : {s : ℕ} → s ≡ stacked c 16 → Apart c s
   unfolding stacked
   apart e =
-      let p = digits _ _ _ _ (mask_lt (class_at c 0) 16) (mask_lt (class_at c 1) 16) (mask_lt (class_at c 2) 16) (mask_lt (class_at c 3) 16) in
+      let p = digits _ _ _ _ (mask_lt (class_at c 0) 16) (mask_lt (class_at c 1) 16) (mask_lt (class_at c 2) 16)
+      (mask_lt (class_at c 3) 16) in
       let sum = all_is 16 in
       rw e
       (record {

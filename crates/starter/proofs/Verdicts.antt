@@ -77,7 +77,8 @@ module _ (ks : List Command) (free sq a b : ℕ) where
       }
 
   -- the lowest of them, as the machine finds it
-  pub lowest_to_see : {left : ℕ} → ToSee left → (left ≡ 0 → ⊥) → OneTaken left (count_trailing_zeros 64 left) (left - 2 ^ count_trailing_zeros 64 left)
+  pub lowest_to_see : {left : ℕ} → ToSee left → (left ≡ 0 → ⊥)
+      → OneTaken left (count_trailing_zeros 64 left) (left - 2 ^ count_trailing_zeros 64 left)
   lowest_to_see {left} w n = rw (← first_trailing 64 left) (lowest_taken left w.fits (pos_of_ne-zero n))
 
   module _ {left t rest : ℕ} (w : ToSee left) (o : OneTaken left t rest) where

@@ -18,10 +18,11 @@ waiting false marked = refl
 pub returns-then-r : goal.returns-then-r
 unfolding candidate_at
 returns-then-r c d i e =
-    let q = c.before.before.before.args.q in rw (← e, eq-eqb _ _ c.if1.true) (empty q.ring.exists q.marked)
+    let q = c.args.q in
+    rw (← e, eq-eqb _ _ c.if-r.true) (empty q.ring.exists q.marked)
 
 pub returns : goal.returns
 unfolding candidate_at
 returns c d i e =
-    let q = c.before.before.before.before.before.args.q in
-    rw (← e, ne_eqb _ _ c.before.before.if1.false) (waiting q.ring.exists q.marked)
+    let q = c.args.q in
+    rw (← e, ne_eqb _ _ c.if-r.false) (waiting q.ring.exists q.marked)

@@ -9,6 +9,6 @@ returns c =
     record {
       sound = p.sound;
       is =
-          left_with (held c.args.state.now) (held c.put_free.new.0) (held c.put_arbiter.new.0) _ _ _ _
+          left_with (held c.args.state.now) (held c.put_free.new.s) (held c.put_arbiter.new.s) _ _ _ _
           c.put_free.ensures.is c.put_arbiter.ensures.is p.is;
     }

@@ -33,7 +33,8 @@ command_at-k-requires c =
 
 pub returns-then-k-sq : goal.returns-then-k-sq
 returns-then-k-sq c =
-    one_found _ _ _ _ _ c.loop-left.invariant (tag (goal.at.returns-then-k-sq c).In-loop-left) (rw (sym c.command_at-k.ensures) c.if-k-sq.true)
+    one_found _ _ _ _ _ c.loop-left.invariant (tag (goal.at.returns-then-k-sq c).In-loop-left)
+    (rw (sym c.command_at-k.ensures) c.if-k-sq.true)
 
 pub overflow_cast-left : goal.overflow_cast-left
 overflow_cast-left c =
@@ -49,12 +50,19 @@ overflow_sub-left-in-loop-left c =
 
 pub loop-left-smaller : goal.loop-left-smaller
 loop-left-smaller c =
-    rw (shl_one 64 _ (tag (goal.at.loop-left-smaller c).In-loop-left).low) (omega (arith, sub_fits _ _ (tag (goal.at.loop-left-smaller c).In-loop-left).free, pow_pos (count_trailing_zeros 64 c.loop-left.left)))
+    rw (shl_one 64 _ (tag (goal.at.loop-left-smaller c).In-loop-left).low)
+    (omega (
+      arith,
+      sub_fits _ _ (tag (goal.at.loop-left-smaller c).In-loop-left).free,
+      pow_pos
+          (count_trailing_zeros 64 c.loop-left.left),
+    ))
 
 pub loop-left-preserved : goal.loop-left-preserved
 loop-left-preserved c =
     rw (shl_one 64 _ (tag (goal.at.loop-left-preserved c).In-loop-left).low)
-    (one_seen _ _ _ _ _ c.loop-left.invariant (tag (goal.at.loop-left-preserved c).In-loop-left) (rw (sym c.command_at-k.ensures) c.if-k-sq.false))
+    (one_seen _ _ _ _ _ c.loop-left.invariant (tag (goal.at.loop-left-preserved c).In-loop-left)
+    (rw (sym c.command_at-k.ensures) c.if-k-sq.false))
 
 pub returns : goal.returns
 returns c =
