@@ -14,7 +14,8 @@ use Rattle.controller.specs.declared.CompletionQueue.{CompletionQueue}
 use Rattle.controller.specs.Controller.{Controller}
 use Rattle.controller.specs.State.{sq_at, cq_at, with_sq, with_cq}
 use Rattle.controller.specs.Valid.{RingOk}
-use Rattle.controller.specs.Doorbell.{valid_tail, valid_head, tail_refusal, tail_moved, mark, tail_write, head_refusal, head_moved, head_write}
+use Rattle.controller.specs.Doorbell.{valid_tail, valid_head, tail_refusal, tail_moved}
+use Rattle.controller.specs.Doorbell.{mark, tail_write, head_refusal, head_moved, head_write}
 use Rattle.controller.specs.Answers.{outcome}
 use Rattle.controller.specs.Calls.{Reachable, of_number}
 use Rattle.controller.proofs.Validity.{valid}
@@ -47,7 +48,8 @@ module _ (c : Controller) (id v : ℕ) (m : Memory) where
       tail_11 y = rw (le-ltb _ _ h, ← e, x, y)
 
       module _ (y : q.marked ≡ false) {b : Bool} (g : b ≡ valid_tail q.ring v) where
-        pub tail_10 : not b ≡ true → {d : Controller} → d ≡ with_sq c id (mark (sq_at c id)) → outcome (of_number 10) d m ≡ tail_write c m id v
+        pub tail_10 : not b ≡ true → {d : Controller} → d ≡ with_sq c id (mark (sq_at c id))
+            → outcome (of_number 10) d m ≡ tail_write c m id v
         unfolding tail_write tail_refusal settle
         tail_10 n f = rw (f, le-ltb _ _ h, ← e, x, y, ← g, not_yes b n)
 
