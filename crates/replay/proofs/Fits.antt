@@ -17,7 +17,8 @@ use Rattle.controller.specs.Controller.{Controller}
 use Rattle.controller.specs.Answers.{Answer, number_of, Outcome}
 use Rattle.controller.specs.Finishing.{cq_of}
 use Rattle.controller.specs.Starting.{one_taken, pair_taken}
-use Rattle.controller.specs.Calls.{Call, create_cq, create_sq, delete_cq, delete_sq, tail_write, head_write, start, finish, perform, Reachable}
+use Rattle.controller.specs.Calls.{Call, create_cq, create_sq, delete_cq, delete_sq}
+use Rattle.controller.specs.Calls.{tail_write, head_write, start, finish, perform, Reachable}
 use Rattle.controller.specs.Refusing.{refusals, Among, Values}
 use Rattle.controller.specs.Valid.{Valid}
 use Rattle.controller.proofs.Made.{takes_one, takes_pair, finishes, Made, refuses, marks, creates_cq, creates_sq, moves_tail, moves_head}
@@ -117,7 +118,8 @@ low_record r b =
     (low_rules (ltb (length r) 16) (outside_of 1 4 (sent r)) (any_set (spares r))))
     (same_or_not n 0)
 
-done_low : {c : Controller} (m : Memory) (a : Asked) → Reachable c → Low a → ((done_by c m a).refusal < 256) × ((done_by c m a).result < 65536)
+done_low : {c : Controller} (m : Memory) (a : Asked) → Reachable c → Low a
+    → ((done_by c m a).refusal < 256) × ((done_by c m a).result < 65536)
 done_low {c} m (call x) r l = (low_number c m x, low_result (valid r) (made c m (valid r).free_64 x) l)
 done_low m (none n) r l = (l, lit< tt)
 
