@@ -32,7 +32,8 @@ overflow_cast-class c =
 
 pub put_sq-requires : goal.put_sq-requires
 put_sq-requires c =
-    (omega (arith, (new_sq_lem _ _ _ _ _ _ _ (sym c.create_sq_refusal-refusal.ensures ∙ c.if-refusal-ne0.false)).id_low), c.requires.sound)
+    let k = new_sq_lem _ _ _ _ _ _ _ (sym c.create_sq_refusal-refusal.ensures ∙ c.if-refusal-ne0.false) in
+    (omega (arith, k.id_low), c.requires.sound)
 
 pub returns : goal.returns
 unfolding create_sq
