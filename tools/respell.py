@@ -108,7 +108,8 @@ def plan(root):
     antt = list(files(root, ".antt"))
     texts = {p: open(p, encoding="utf-8").read() for p in antt}
     for p, first in FIRST.items():
-        texts[os.path.join(root, p)] = turned(texts[os.path.join(root, p)], first)
+        if os.path.join(root, p) in texts:
+            texts[os.path.join(root, p)] = turned(texts[os.path.join(root, p)], first)
     sources = {p: open(p, encoding="utf-8").read() for p in files(root, ".rt")}
     tokens = {p: words(t) for p, t in texts.items() if not own_proof(p)}
     source_tokens = {p: bound(t) for p, t in sources.items()}
