@@ -62,7 +62,8 @@ module _ (page prp1 len : ℕ) (low : 4096 ≤ page) where
         let room = page - prp1 % page in
         let x = prp1 % page + len - 1 in
         let whole : suc i * page ≤ x = (le-div_iff_mul-le pos).0 (omega (arith, by_offset page prp1 len low some)) in
-        let full = split_full page room len (pages_touched page prp1 len) i (omega arith) (omega (arith, suc-mul i page, mod-lt prp1 pos)) in
+        let full =
+        split_full page room len (pages_touched page prp1 len) i (omega arith) (omega (arith, suc-mul i page, mod-lt prp1 pos)) in
         omega (arith, full, add-mul (prp1 / page) (suc i) page, suc-mul i page, mod-lt prp1 pos, div-add-mod' prp1 page)
 
     -- each byte lies on one of the pages touched, counted from the page of the first

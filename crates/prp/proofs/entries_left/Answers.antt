@@ -1,3 +1,4 @@
+-- `prp::entries_left` meets its contract. Assumes nothing.
 use native.Mathlib.Omega.{arith}
 use Rattle.prp.proofs.Touched.{page_eight}
 use Rattle.prp.proofs.entries_left.Goals as goal

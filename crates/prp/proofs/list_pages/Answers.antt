@@ -1,12 +1,14 @@
 -- Both loops keep the way from the list's start to where they stand. A turn of the outer loop that goes on has followed a pointer.
 use borrow.Author.Rules.{rules}
-use borrow.Author.Tests.{leb-true, leb-false, not-true, not-false}
-use mathlib.Core.List.{◌∷◌, ◌++◌}
+use borrow.Author.Tests.{leb-true, leb-false}
+use mathlib.Core.Bool.{Bool, true}
+use mathlib.Core.List.{List, [], ◌∷◌, ◌++◌}
 use mathlib.Core.Path.{◌≡◌, refl, sym, ◌∙◌}
 use native.Mathlib.Nat.{zero-add, le_of_eq}
 use native.Mathlib.Omega.{arith}
-use Prim.Native.Nat.{◌+◌, ◌≤◌}
+use Prim.Native.Nat.{ℕ, ◌+◌, ◌%◌, ◌≤◌}
 use lib.ListN.{length, length-append}
+use Rattle.le.specs.Le.{le_at}
 use Rattle.prp.specs.Pages.{page_size}
 use Rattle.prp.specs.Walk.{in_memory}
 use Rattle.prp.specs.Answer.{counted}
@@ -14,21 +16,16 @@ use Rattle.prp.proofs.Touched.{page_low, page_eight}
 use Rattle.prp.proofs.Lists.{Read}
 use Rattle.prp.proofs.Between.{pointers_few, begin, begin_run, not_inside, not_aligned, next, follow, last}
 use Rattle.prp.proofs.list_pages.Goals as goal
-use Rattle.prp.proofs.list_pages.Goals.{Else-not-in_memory, Else-page_offset-ne0}
 
-inside :
-    (c : Else-not-in_memory) →
-    c.loop-walked.at + 8 ≤ length c.args.memory.now
+inside : (m : List ℕ) (at : ℕ) {b : Bool} → b ≡ in_memory m at → b ≡ true → at + 8 ≤ length m
 unfolding in_memory
-inside c =
-    leb-true _ _ (sym c.in_memory.ensures ∙ not-false _ c.if-not-in_memory.false-raw)
+inside m at is h = leb-true _ _ (sym is ∙ h)
 
 -- the entry is not refused
 read :
-    (c : Else-page_offset-ne0) →
-    Read (page_size c.args.page) c.args.memory.now c.loop-walked.at c.get64-entry.result
-read c =
-    record { inside = inside c.before.before.before; is = c.get64-entry.ensures.0; aligned = sym c.page_offset.ensures.0 ∙ c.if-page_offset-ne0.false }
+    (page : ℕ) (m : List ℕ) (at : ℕ) {e o : ℕ} {b : Bool} → b ≡ in_memory m at → b ≡ true → e ≡ le_at 8 m at → o ≡ e % page → o ≡ 0
+    → Read page m at e
+read page m at lies is_in is offset zero = record { inside = inside _ _ lies is_in; is = is; aligned = sym offset ∙ zero }
 
 pub pages-init : goal.pages-init
 pages-init c =
@@ -50,40 +47,54 @@ overflow_add-reads c =
 
 pub pages-smaller : goal.pages-smaller
 pages-smaller c =
-    (follow c.loop-walked.invariant.0 (read (goal.at.pages-smaller c).Else-page_offset-ne0) c.loop-walked.invariant.1 (le_of_eq c.if-more-eq1.true) c.if-left-eq1.false).1
+    let d =
+    read (page_size c.args.page) c.args.memory.now _ c.in_memory.ensures c.if-not-in_memory.false c.get64-entry.ensures.0
+    c.page_offset.ensures.0 c.if-page_offset-ne0.false in
+    (follow c.loop-walked.invariant.0 d c.loop-walked.invariant.1 (le_of_eq c.if-more-eq1.true) c.if-left-eq1.false).1
 
 pub pages-preserved : goal.pages-preserved
 pages-preserved c =
-    let t = follow c.loop-walked.invariant.0 (read (goal.at.pages-preserved c).Else-page_offset-ne0) c.loop-walked.invariant.1 (le_of_eq c.if-more-eq1.true) c.if-left-eq1.false in
-    (t.0, omega (arith, (read (goal.at.pages-preserved c).Else-page_offset-ne0).aligned, page_eight c.args.page c.get64-entry.result))
+    let d =
+    read (page_size c.args.page) c.args.memory.now _ c.in_memory.ensures c.if-not-in_memory.false c.get64-entry.ensures.0
+    c.page_offset.ensures.0 c.if-page_offset-ne0.false in
+    let t = follow c.loop-walked.invariant.0 d c.loop-walked.invariant.1 (le_of_eq c.if-more-eq1.true) c.if-left-eq1.false in
+    (t.0, omega (arith, d.aligned, page_eight c.args.page c.get64-entry.result))
 
 pub loop-walked-preserved : goal.loop-walked-preserved
 loop-walked-preserved c =
-    next c.loop-walked.invariant.0 (read (goal.at.loop-walked-preserved c).Else-page_offset-ne0) c.loop-walked.invariant.1 c.if-more-eq1.false
+    let d =
+    read (page_size c.args.page) c.args.memory.now _ c.in_memory.ensures c.if-not-in_memory.false c.get64-entry.ensures.0
+    c.page_offset.ensures.0 c.if-page_offset-ne0.false in
+    next c.loop-walked.invariant.0 d c.loop-walked.invariant.1 c.if-more-eq1.false
 
 pub returns-then-not-in_memory : goal.returns-then-not-in_memory
 unfolding counted in_memory
 returns-then-not-in_memory c =
-    rw (not_inside c.loop-walked.invariant.0 (leb-false _ _ (sym c.in_memory.ensures ∙ not-true _ c.if-not-in_memory.true-raw))) refl
+    rw (not_inside c.loop-walked.invariant.0 (leb-false _ _ (sym c.in_memory.ensures ∙ c.if-not-in_memory.true))) refl
 
 pub returns-then-page_offset-ne0 : goal.returns-then-page_offset-ne0
 unfolding counted
 returns-then-page_offset-ne0 c =
+    let t = c.loop-walked.invariant.0 in
+    let lies = inside _ _ c.in_memory.ensures c.if-not-in_memory.false in
     let d = c.page_offset.ensures.0 in
-    rw (not_aligned c.loop-walked.invariant.0 (inside (goal.at.returns-then-page_offset-ne0 c).Else-not-in_memory) (λ h. c.if-page_offset-ne0.true (d ∙ rw c.get64-entry.ensures.0 h))) refl
+    rw (not_aligned t lies (λ h. c.if-page_offset-ne0.true (d ∙ rw c.get64-entry.ensures.0 h))) refl
 
 pub returns-then-left-eq1 : goal.returns-then-left-eq1
 unfolding counted
 returns-then-left-eq1 c =
+    let d =
+    read (page_size c.args.page) c.args.memory.now _ c.in_memory.ensures c.if-not-in_memory.false c.get64-entry.ensures.0
+    c.page_offset.ensures.0 c.if-page_offset-ne0.false in
     let t = c.loop-walked.invariant.0 in
     let all = t.done ++ (c.get64-entry.result ∷ []) in
     let many : 1 + length all ≡ c.args.count + 1 = simp length-append (omega (arith, t.many)) in
-    rw (last t (read (goal.at.returns-then-left-eq1 c).Else-page_offset-ne0) (page_low c.args.page) c.if-left-eq1.true, many, zero-add) refl
+    rw (last t d (page_low c.args.page) c.if-left-eq1.true, many, zero-add) refl
 
 pub get64-entry-requires : goal.get64-entry-requires
 get64-entry-requires c =
-    inside c
+    inside _ _ c.in_memory.ensures c.if-not-in_memory.false
 
 pub overflow_add-at : goal.overflow_add-at
 overflow_add-at c =
-    omega (arith, inside (goal.at.overflow_add-at c).Else-not-in_memory)
+    omega (arith, inside _ _ c.in_memory.ensures c.if-not-in_memory.false)

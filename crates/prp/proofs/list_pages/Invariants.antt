@@ -7,7 +7,8 @@ use Rattle.prp.proofs.list_pages.Given as goal
 
 abbrev pub invariant-loop-walked : goal.invariant-loop-walked
 invariant-loop-walked l =
-    Between (page_size l.page) l.memory l.start l.count l.reads l.at l.left × Run (page_size l.page) l.initial.at l.initial.left l.at l.left l.more
+    Between (page_size l.page) l.memory l.start l.count l.reads l.at l.left
+    × Run (page_size l.page) l.initial.at l.initial.left l.at l.left l.more
 
 abbrev pub decreases-loop-walked : goal.decreases-loop-walked
 decreases-loop-walked l =

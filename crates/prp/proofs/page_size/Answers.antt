@@ -1,3 +1,4 @@
+-- `prp::page_size` meets its contract. Assumes nothing.
 use mathlib.Core.Path.{◌≡◌}
 use native.Mathlib.Omega.{arith}
 use Prim.Native.Nat.{◌*◌, ◌^◌, ◌%◌}

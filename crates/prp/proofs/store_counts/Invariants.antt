@@ -1,3 +1,4 @@
+-- What the loop of `store_counts` keeps.
 use mathlib.Core.Path.{◌≡◌}
 use Prim.Native.Nat.{◌-◌, ◌≤◌}
 use lib.ListN.{take, drop}

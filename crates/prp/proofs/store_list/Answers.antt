@@ -1,14 +1,12 @@
 -- Both loops keep the way from the list's start to where they stand, and what the buffer comes to once the rest of the list is stored.
 -- A turn of the outer loop that goes on has followed a pointer.
 use borrow.Author.Rules.{rules}
-use mathlib.Core.List.{List, ◌∷◌, ◌++◌}
-use mathlib.Core.Path.{◌≡◌, refl, ap, ◌∙◌}
+use mathlib.Core.List.{List, [], ◌∷◌, ◌++◌}
+use mathlib.Core.Path.{◌≡◌, refl, ◌∙◌}
 use native.Mathlib.Omega.{arith}
 use Prim.Native.Nat.{ℕ, ◌+◌, ◌-◌, ◌*◌, ◌≤◌, ◌<◌}
-use lib.ListN.{length}
-use lib.Seq.{sets, length-sets}
+use lib.Seq.{sets}
 use Rattle.le.specs.Le.{le, le_at}
-use Rattle.prp.specs.Pages.{page_size}
 use Rattle.prp.specs.Walk.{Walk, after, list}
 use Rattle.prp.specs.Answer.{addresses_of}
 use Rattle.prp.proofs.Touched.{page_low, page_eight}
@@ -17,15 +15,11 @@ use Rattle.prp.proofs.Lists.{after_found, Read}
 use Rattle.prp.proofs.Between.{pointers, Run, begin, begin_run, good_entry, last_is, next_is, follow_is, follow}
 use Rattle.prp.proofs.Between as between
 use Rattle.prp.proofs.store_list.Goals as goal
-use Rattle.prp.proofs.store_list.Goals.{At-loop-more}
 use Rattle.prp.proofs.store_list.Invariants.{Copy, full}
 
 module _
     {page : ℕ} {m : List ℕ} {start count : ℕ} {old : List ℕ} {a₀ left₀ to₀ : ℕ} {buf : List ℕ} {a left to : ℕ}
     (t : Copy page m start count old a₀ left₀ to₀ buf a left to) where
-  same_size : length buf ≡ length old
-  same_size = simp length-sets at (ap length t.kept)
-
   again : Copy page m start count buf a left to buf a left to
   again = record { n = t.n; way = t.way; good = t.good; place = t.place; kept = refl }
 
@@ -64,81 +58,47 @@ module _
 
 -- from the function's entry to the head of the inner loop
 copy :
-    (l : At-loop-more) →
-    let a = l.args in
-    Copy (page_size a.page) a.memory.now a.start a.count a.addresses.now a.start a.count 8
-    l.loop-more.addresses l.loop-more.at l.loop-more.left l.loop-more.to
-copy l =
-    let t = l.loop-more.invariant.0 in
-    record { n = t.n; way = t.way; good = t.good; place = t.place; kept = t.kept ∙ l.loop-addresses.invariant.0.kept }
+    {page : ℕ} {m : List ℕ} {start count : ℕ} {old mid buf : List ℕ} {a₁ left₁ to₁ a left to : ℕ}
+    → Copy page m start count mid a₁ left₁ to₁ buf a left to → Copy page m start count old start count 8 mid a₁ left₁ to₁
+    → Copy page m start count old start count 8 buf a left to
+copy t u = record { n = t.n; way = t.way; good = t.good; place = t.place; kept = t.kept ∙ u.kept }
 
 pub loop-addresses-init : goal.loop-addresses-init
 loop-addresses-init c =
     (record { n = 0; way = begin (search rules); good = c.requires.found; place = omega arith; kept = refl }, search rules)
 
-pub smaller-more-requires : goal.smaller-more-requires
-smaller-more-requires c =
-    let low = page_low c.before.args.page in
-    (again c.loop.invariant.0, begin_run _ low c.entries-left.ensures c.smaller.ensures)
-
--- the entry that is read lies in memory, and its address has room
-fits :
-    (l : At-loop-more) → l.loop-more.at + 8 ≤ length l.args.memory.now
-fits l =
-    (read (copy l) refl).inside
-
-room :
-    (l : At-loop-more) → l.loop-more.to + 8 ≤ length l.loop-more.addresses
-room l =
-    omega (arith, (copy l).way.some, (copy l).place, same_size (copy l))
-
-pub loop-more-smaller : goal.loop-more-smaller
-loop-more-smaller c =
-    let more = c.loop-more-test.true in
-    rw c.put64.ensures (next c.loop-more.invariant.0 c.get64.ensures.0 c.loop-more.invariant.1 (λ h. omega arith))
-
-pub put64-requires-then-left-eq1 : goal.put64-requires-then-left-eq1
-put64-requires-then-left-eq1 c =
-    ap length c.put642.ensures ∙ simp length-sets (same_size (copy (goal.at.put64-requires-then-left-eq1 c).At-loop-addresses))
-
-pub returns-then-left-eq1 : goal.returns-then-left-eq1
-returns-then-left-eq1 c =
-    c.put64-then-left-eq1.ensures ∙ last (copy (goal.at.returns-then-left-eq1 c).At-loop-more) c.get64-entry.ensures.0 (page_low c.args.page) c.if-left-eq1.true
-
-pub loop-addresses-smaller : goal.loop-addresses-smaller
-loop-addresses-smaller c =
-    (followed (copy (goal.at.loop-addresses-smaller c).At-loop-more) c.get64-entry.ensures.0 c.loop-more.invariant.1 c.loop-more-test.false c.if-left-eq1.false).1
-
-pub loop-addresses-preserved : goal.loop-addresses-preserved
-loop-addresses-preserved c =
-    let t = followed (copy (goal.at.loop-addresses-preserved c).At-loop-more) c.get64-entry.ensures.0 c.loop-more.invariant.1 c.loop-more-test.false c.if-left-eq1.false in
-    let d = read (copy (goal.at.loop-addresses-preserved c).At-loop-more) c.get64-entry.ensures.0 in
-    (t.0, omega (arith, d.aligned, page_eight c.args.page c.get64-entry.result))
-
-pub loop-addresses-init : goal.loop-addresses-init
-loop-addresses-init c =
-    (search rules, c.loop.invariant.1)
-
 pub loop-more-init : goal.loop-more-init
 loop-more-init c =
-    fits (goal.at.loop-more-init c).At-loop-addresses
+    (again c.loop-addresses.invariant.0, begin_run _ (page_low c.args.page) c.entries_left.ensures c.smaller-more.ensures)
 
+-- the entry that is read lies in memory
 pub get64-requires : goal.get64-requires
-get64-requires c =
-    room (goal.at.get64-requires c).After-smaller-more
-
-pub overflow_sub-left : goal.overflow_sub-left
-overflow_sub-left c =
-    omega (arith, fits (goal.at.overflow_sub-left c).At-loop-more)
+get64-requires c = (read c.loop-more.invariant.0 refl).inside
 
 pub overflow_add-at : goal.overflow_add-at
-overflow_add-at c =
-    omega (arith, room (goal.at.overflow_add-at c).At-loop-more)
+overflow_add-at c = omega (arith, (read c.loop-more.invariant.0 refl).inside)
 
 pub loop-more-preserved : goal.loop-more-preserved
 loop-more-preserved c =
-    fits (goal.at.loop-more-preserved c).After-addresses-1
+    let t = c.loop-more.invariant in
+    rw c.put64.ensures (next t.0 c.get64.ensures.0 t.1 (λ h. omega arith))
 
 pub get64-entry-requires : goal.get64-entry-requires
-get64-entry-requires c =
-    room (goal.at.get64-entry-requires c).At-loop-addresses
+get64-entry-requires c = (read c.loop-more.invariant.0 refl).inside
+
+pub returns-then-left-eq1 : goal.returns-then-left-eq1
+returns-then-left-eq1 c =
+    let t = copy c.loop-more.invariant.0 c.loop-addresses.invariant.0 in
+    c.put64-then-left-eq1.ensures ∙ last t c.get64-entry.ensures.0 (page_low c.args.page) c.if-left-eq1.true
+
+pub loop-addresses-smaller : goal.loop-addresses-smaller
+loop-addresses-smaller c =
+    let t = copy c.loop-more.invariant.0 c.loop-addresses.invariant.0 in
+    (followed t c.get64-entry.ensures.0 c.loop-more.invariant.1 c.loop-more-test.false c.if-left-eq1.false).1
+
+pub loop-addresses-preserved : goal.loop-addresses-preserved
+loop-addresses-preserved c =
+    let t = copy c.loop-more.invariant.0 c.loop-addresses.invariant.0 in
+    let f = followed t c.get64-entry.ensures.0 c.loop-more.invariant.1 c.loop-more-test.false c.if-left-eq1.false in
+    let d = read t c.get64-entry.ensures.0 in
+    (f.0, omega (arith, d.aligned, page_eight c.args.page c.get64-entry.result))

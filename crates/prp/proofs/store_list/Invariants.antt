@@ -2,7 +2,7 @@
 -- A turn of the outer loop that goes on has followed a pointer.
 use mathlib.Core.List.{List}
 use mathlib.Core.Path.{◌≡◌}
-use Prim.Native.Nat.{ℕ, ◌+◌, ◌-◌, ◌*◌, ◌%◌}
+use Prim.Native.Nat.{ℕ, ◌+◌, ◌*◌, ◌%◌}
 use lib.Seq.{sets}
 use Rattle.prp.specs.Pages.{page_size}
 use Rattle.prp.specs.Walk.{list}
@@ -25,7 +25,9 @@ pub record Copy (page : ℕ) (m : List ℕ) (start count : ℕ) (old : List ℕ)
 
 abbrev pub invariant-loop-more : goal.invariant-loop-more
 invariant-loop-more l =
-    Copy (page_size l.page) l.memory l.start l.count l.initial.addresses l.initial.at l.initial.left l.initial.to l.addresses l.at l.left l.to × Run (page_size l.page) l.initial.at l.initial.left l.at l.left l.more
+    Copy (page_size l.page) l.memory l.start l.count l.initial.addresses l.initial.at l.initial.left l.initial.to
+    l.addresses l.at l.left l.to
+    × Run (page_size l.page) l.initial.at l.initial.left l.at l.left l.more
 
 abbrev pub decreases-loop-more : goal.decreases-loop-more
 decreases-loop-more l =
@@ -33,7 +35,9 @@ decreases-loop-more l =
 
 abbrev pub invariant-loop-addresses : goal.invariant-loop-addresses
 invariant-loop-addresses l =
-    Copy (page_size l.page) l.memory l.start l.count l.initial.addresses l.initial.at l.initial.left l.initial.to l.addresses l.at l.left l.to × (l.at % 8 ≡ 0)
+    Copy (page_size l.page) l.memory l.start l.count l.initial.addresses l.initial.at l.initial.left l.initial.to
+    l.addresses l.at l.left l.to
+    × (l.at % 8 ≡ 0)
 
 abbrev pub decreases-loop-addresses : goal.decreases-loop-addresses
 decreases-loop-addresses l =
