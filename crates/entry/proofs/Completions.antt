@@ -71,7 +71,9 @@ completion_read_lem b e phase w h =
     )
 
 -- an entry whose reserved bytes are 0 is written again as it was read
-pub completion_again : (b : List ℕ) → Bytes b → 16 ≤ length b → le_at 4 b 4 ≡ 0 → completion_bytes (completion_at b) (phase_tag b) ≡ part b 0 16
+pub completion_again :
+    (b : List ℕ) → Bytes b → 16 ≤ length b → le_at 4 b 4 ≡ 0
+    → completion_bytes (completion_at b) (phase_tag b) ≡ part b 0 16
 unfolding completion_bytes completion_at phase_tag
 completion_again b y h z =
     let zeros : le 4 0 ≡ part b 4 4 = ap (le 4) (sym z) ∙ le_le_at 4 b 4 y (omega arith) in
