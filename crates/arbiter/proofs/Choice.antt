@@ -241,7 +241,8 @@ module _ (m : ℕ) (fits : m < 2 ^ 16) where
   pub next_answered : (h : ℕ) {x : Next} → x ≡ next_after (is_set m) h
       → (x ≡ next_after (is_set m) h) × ((next_answer x).0 ≡ group_refusal (is_set m))
   next_answered h e =
-      answer_number (λ y. (next_answer y).0) (next_number (next_after (is_set m) h) (next_is (λ i. i < 16) (λ i l. l) (is_set m) within h)) e
+      answer_number (λ y. (next_answer y).0) (next_number (next_after (is_set m) h)
+      (next_is (λ i. i < 16) (λ i l. l) (is_set m) within h)) e
 
   pub turn_answered : (full : Remainder) (g : Group) {x : Turn} → x ≡ turn full g (is_set m)
       → (x ≡ turn full g (is_set m)) × ((turn_answer g x).0 ≡ group_refusal (is_set m))

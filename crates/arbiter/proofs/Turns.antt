@@ -80,7 +80,8 @@ module _ (m h : ℕ) (f : m < 2 ^ 16) where
       (sym (in_turn_lem passed l) ∙ first_hit (is_set in_turn) 0 32 (omega arith))
       (λ j a b.
       let q : (h + (j - 1 + 1)) % 16 ≡ (h + j) % 16 = omega arith in
-      ap (is_set m) (sym q) ∙ sym (in_turn_lem (j - 1) (omega arith)) ∙ first_below (is_set in_turn) 0 32 (j - 1) (omega arith) (omega arith))
+      ap (is_set m) (sym q) ∙ sym (in_turn_lem (j - 1) (omega arith))
+      ∙ first_below (is_set in_turn) 0 32 (j - 1) (omega arith) (omega arith))
 
 -- ---- a turn
 
