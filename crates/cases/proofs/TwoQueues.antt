@@ -26,7 +26,7 @@ use Rattle.controller.specs.Doorbell as doorbell
 use Rattle.controller.specs.Verdict.{in_use, verdict_one}
 use Rattle.controller.specs.Starting as starting
 use Rattle.controller.specs.Finishing as finishing
-use Rattle.controller.specs.Calls.{Call, create_cq, create_sq, tail_write, head_write, start, finish}
+use Rattle.controller.specs.Calls.{Call, create_sq, tail_write, head_write, start, finish}
 use Rattle.controller.specs.Demand.{reader, History, ring_bytes, size_of, head_writes, unreleased}
 use Rattle.controller.proofs.Demand.{demand3, demand3_apart}
 use Rattle.controller.proofs.Undisturbed.{undisturbed}

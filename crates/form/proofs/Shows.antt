@@ -12,7 +12,7 @@ use Rattle.print.specs.Text.{bytes, line_end}
 use Rattle.print.proofs.Puts.{put_none, put_then, put_as, put_length, room_then}
 use Rattle.print.proofs.Parts.{put_there, behind_put}
 use Rattle.parse.specs.Line.{before, same}
-use Rattle.form.specs.Shown.{above, mark, wanted, said, verdict, compared, answered, aside, shown, standing}
+use Rattle.form.specs.Shown.{above, mark, wanted, said, verdict, compared, answered, aside, standing}
 use Rattle.form.specs.declared.Form.{Form}
 use Rattle.form.specs.declared.Form.TheVariants.{Alone, Beside, Under}
 

@@ -3,7 +3,6 @@ use mathlib.Core.Path.{◌≡◌, ◌∙◌, ap}
 use mathlib.Core.List.{List}
 use Prim.Native.Nat.{ℕ, ◌≤◌}
 use lib.ListN.{take}
-use Rattle.parse.specs.declared.arguments.Rest.{Rest}
 use Rattle.language.specs.declared.command.Form as code
 use Rattle.language.specs.Vocabulary.{Form}
 use Rattle.language.specs.Forms.{Forms}

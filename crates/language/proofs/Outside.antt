@@ -17,7 +17,7 @@ use Rattle.rules.proofs.Cases.{pick_cases}
 use Rattle.le.specs.Le.{le}
 use Rattle.le.specs.Memory.{Memory, part, put}
 use Rattle.controller.specs.Controller.{Controller}
-use Rattle.print.specs.Text.{bytes, decimal_in, decimal, next, each, numbers, hex_digit, hex_byte, hex, hex_word, line_end, bad_line}
+use Rattle.print.specs.Text.{bytes, decimal_in, next, each, numbers, hex_digit, hex_byte, hex_word, line_end, bad_line}
 use Rattle.parse.specs.Line.{is_blank, before, words_of, most_bytes, same}
 use Rattle.parse.specs.Arguments.{arguments_in}
 use Rattle.parse.proofs.Texts.{same_equal}
@@ -34,7 +34,7 @@ use Rattle.language.specs.declared.vocabulary.Named.TheVariants as N
 use Rattle.language.specs.Vocabulary.{form, vocabulary, among, named}
 use Rattle.language.specs.State.{Console, console, lent_memory}
 use Rattle.language.specs.Replies.{Said, say, bad, told, is_good, sentence, texted, Reply, reply}
-use Rattle.language.specs.Commands.{nth, calls_made, outside, on_part, parts_used, poked, peeked, walked, replayed, looked}
+use Rattle.language.specs.Commands.{nth, calls_made, outside, on_part, parts_used, poked, peeked, walked, replayed}
 use Rattle.language.specs.Line.{on_lent, obeyed, asked, Answered, saying, by_words, answered}
 
 -- ---- bad lines

@@ -1,5 +1,5 @@
 -- Laws of the vocabulary's rows. Assumes nothing.
-use mathlib.Core.Path.{◌≡◌, refl, sym, ap, ◌∙◌}
+use mathlib.Core.Path.{◌≡◌, refl, ap, ◌∙◌}
 use mathlib.Core.Bool.{Bool, true, false, ◌&&◌}
 use mathlib.Core.List.{List, [], ◌∷◌, map}
 use Prim.Native.Nat.{ℕ, zero, suc, ◌+◌, ◌-◌, ◌≤◌, ◌<◌}
@@ -11,13 +11,11 @@ use lib.ListN.{length, take, drop, get_or}
 use lib.Seq.{drop-cons}
 use borrow.Author.Tests.{leb-true}
 use Rattle.rules.proofs.Tests.{and_true, every, every_at}
-use Rattle.print.specs.Text.{bytes}
 use Rattle.parse.specs.Line.{same}
 use Rattle.parse.proofs.Texts.{same_equal}
 use Rattle.language.specs.declared.command.Command.{Command}
 use Rattle.language.specs.declared.command.Command.TheVariants as K
 use Rattle.language.specs.declared.command.Call.TheVariants as C
-use Rattle.language.specs.declared.vocabulary.Named.{Named}
 use Rattle.language.specs.declared.vocabulary.Named.TheVariants as N
 use Rattle.language.specs.Vocabulary.{vocabulary, among, named}
 use Rattle.language.specs.Words.{joined, no_row, name_of}

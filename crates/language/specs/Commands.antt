@@ -1,5 +1,5 @@
 -- The commands, one clause each: what each says, and what it leaves of the controller and of the memory that is lent.
-use Rattle.std.specs.Prelude.{ℕ, ◌-◌, ◌*◌, ◌^◌, Bool, ◌||◌, List, [], ◌∷◌, ltb, length, get_or, drop, take, replicate}
+use Rattle.std.specs.Prelude.{ℕ, ◌-◌, ◌*◌, ◌^◌, Bool, ◌||◌, List, [], ◌∷◌, ltb, length, get_or, take, replicate}
 use Rattle.rules.specs.Rules.{pick}
 use Rattle.le.specs.Le.{le}
 use Rattle.le.specs.Memory.{Memory, part, put}
@@ -10,7 +10,7 @@ use Rattle.entry.specs.declared.completion.Completion.{Completion}
 use Rattle.ring.specs.Doorbell.{tail_check, head_check}
 use Rattle.ring.specs.Reader.{waiting_answer, ring_read}
 use Rattle.prp.specs.Pages.{page_size, byte_counts}
-use Rattle.prp.specs.Walk.{Walk, page_walk}
+use Rattle.prp.specs.Walk.{page_walk}
 use Rattle.prp.specs.Answer.{answer, refusal_of, pages_of, reads_of, addresses_of}
 use Rattle.arbiter.specs.declared.Remainder.{Remainder}
 use Rattle.arbiter.specs.declared.Remainder.TheVariants.{Left, NoLimit}

@@ -1,5 +1,5 @@
 -- A form as the code has it.
-use Rattle.std.specs.Prelude.{ℕ, ◌≤◌, ◌≡◌, take}
+use Rattle.std.specs.Prelude.{◌≤◌, ◌≡◌, take}
 use Rattle.language.specs.declared.command.Form as code
 use Rattle.language.specs.Vocabulary.{Form}
 

@@ -1,9 +1,8 @@
 -- The console's language: what a line comes to.
-use Rattle.std.specs.Prelude.{ℕ, Bool, true, false, List, [], ◌∷◌, ltb, length, drop}
+use Rattle.std.specs.Prelude.{ℕ, Bool, true, List, [], ◌∷◌, ltb, length, drop}
 use Rattle.rules.specs.Rules.{pick}
 use Rattle.le.specs.Memory.{Memory}
 use Rattle.controller.specs.Controller.{Controller}
-use Rattle.print.specs.Text.{bad_line}
 use Rattle.parse.specs.Line.{words_of, most_bytes}
 use Rattle.parse.specs.Arguments.{arguments_in}
 use Rattle.language.specs.declared.command.Command.{Command}
@@ -12,7 +11,7 @@ use Rattle.language.specs.declared.vocabulary.Named.{Named}
 use Rattle.language.specs.declared.vocabulary.Named.TheVariants as N
 use Rattle.language.specs.Vocabulary.{form, named}
 use Rattle.language.specs.State.{Console, console, lent_memory, leaving}
-use Rattle.language.specs.Replies.{Said, say, bad, told, is_good, refusal_of, texted, Reply, reply}
+use Rattle.language.specs.Replies.{Said, bad, told, is_good, refusal_of, texted, Reply, reply}
 use Rattle.language.specs.Commands.{nth, calls_made, parts_used, poked, peeked, walked, replayed, looked}
 
 -- a command on the controller and the memory that is lent

@@ -1,5 +1,5 @@
 -- The console's state.
-use Rattle.std.specs.Prelude.{ℕ, List, ◌++◌, take, drop, replicate}
+use Rattle.std.specs.Prelude.{ℕ, ◌++◌, take, drop, replicate}
 use Rattle.le.specs.Memory.{Memory}
 use Rattle.controller.specs.Controller.{Controller}
 use Rattle.controller.specs.State.{new_controller}

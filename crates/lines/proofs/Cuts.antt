@@ -1,32 +1,5 @@
 -- Laws of the lines of a text: it may be cut anywhere, and of a line no more need be known than is kept. Assumes nothing.
-use Rattle.std.proofs.Common.{
-  ◌≡◌,
-  ℕ,
-  zero,
-  suc,
-  ◌+◌,
-  ◌<◌,
-  ◌≤◌,
-  true,
-  false,
-  eqb,
-  List,
-  [],
-  ◌∷◌,
-  ◌++◌,
-  length,
-  take,
-  drop,
-  sym,
-  refl,
-  ap,
-  ◌∙◌,
-  ⊎_elim,
-  append_assoc,
-  append-nil,
-  arith,
-  take-take,
-}
+use Rattle.std.proofs.Common.{◌≡◌, ℕ, zero, suc, ◌<◌, ◌≤◌, true, false, eqb, List, [], ◌∷◌, ◌++◌, length, take, drop, sym, refl, ap, ◌∙◌, ⊎_elim, append_assoc, append-nil, arith, take-take}
 use Rattle.rules.proofs.Tests.{bool_cases}
 use Rattle.parse.specs.Line.{lead, before}
 use Rattle.lines.specs.Sizes.{held_bytes}

@@ -1,27 +1,5 @@
 -- The lines that a reader hands out are those of the file, however it is cut into reads. Assumes nothing.
-use Rattle.std.proofs.Common.{
-  ◌≡◌,
-  ℕ,
-  ◌+◌,
-  ◌<◌,
-  ◌≤◌,
-  List,
-  [],
-  ◌∷◌,
-  ◌++◌,
-  length,
-  take,
-  sym,
-  refl,
-  ap,
-  ◌∙◌,
-  ⊎_elim,
-  append_assoc,
-  arith,
-  length-take,
-  take_all,
-  take-take,
-}
+use Rattle.std.proofs.Common.{◌≡◌, ℕ, ◌<◌, ◌≤◌, List, [], ◌∷◌, ◌++◌, length, take, sym, refl, ap, ◌∙◌, ⊎_elim, append_assoc, arith, length-take, take_all, take-take}
 use Rattle.rules.proofs.Tests.{lt_or_ge}
 use Rattle.print.proofs.Puts.{put_length}
 use Rattle.parse.specs.Line.{ended}

@@ -1,34 +1,5 @@
 -- The steps in a chunk hand out the lines of its bytes, one after another. Assumes nothing.
-use Rattle.std.proofs.Common.{
-  ◌≡◌,
-  ℕ,
-  suc,
-  ◌+◌,
-  ◌-◌,
-  ◌<◌,
-  ◌≤◌,
-  Bool,
-  true,
-  false,
-  List,
-  [],
-  ◌∷◌,
-  ◌++◌,
-  length,
-  take,
-  drop,
-  sym,
-  refl,
-  ap,
-  ◌∙◌,
-  subst,
-  ⊎_elim,
-  arith,
-  length-drop,
-  drop_of_length-le,
-  take-take,
-  drop-drop,
-}
+use Rattle.std.proofs.Common.{◌≡◌, ℕ, suc, ◌+◌, ◌<◌, ◌≤◌, Bool, true, false, List, [], ◌∷◌, ◌++◌, length, take, drop, sym, refl, ap, ◌∙◌, subst, ⊎_elim, arith, length-drop, drop_of_length-le, take-take, drop-drop}
 use Rattle.rules.specs.Rules.{pick}
 use Rattle.rules.proofs.Tests.{lt_or_ge}
 use Rattle.print.proofs.Puts.{put_length}

@@ -11,17 +11,16 @@ use lib.Dec.{ltb, eqb}
 use lib.ListN.{length, take, drop, length-append}
 use lib.Seq.{take-append_seam, drop-append_seam}
 use Rattle.rules.proofs.Tests.{lt_or_ge, and_true, and_no, every, every_at}
-use Rattle.print.specs.Text.{decimal_in, decimal, next, each, numbers, hex_digit, hex_byte, hex, hex_word}
+use Rattle.print.specs.Text.{decimal_in, decimal, each, numbers, hex_digit, hex, hex_word}
 use Rattle.print.proofs.Texts.{digits_one, digits_more, hex_length}
 use Rattle.parse.specs.Line.{in_word, ended, words_on, words_of, lead}
-use Rattle.parse.specs.Numeral.{digit, digits_of, value_on, number_on, is_hex, number_in, up_to}
-use Rattle.parse.specs.Values.{Values, all, and_then, single, of_each, number_up_to, numbers_in, byte_of, bytes_of, bytes_in}
-use Rattle.parse.specs.declared.number.Number.{Number}
-use Rattle.parse.specs.declared.number.Number.TheVariants.{Is, Bad}
+use Rattle.parse.specs.Numeral.{digit, digits_of, value_on, number_on, is_hex, number_in}
+use Rattle.parse.specs.Values.{all, and_then, of_each, numbers_in, byte_of, bytes_of, bytes_in}
+use Rattle.parse.specs.declared.number.Number.TheVariants.{Is}
 use Rattle.parse.proofs.Lines.{words_run}
 use Rattle.parse.proofs.Numerals.{digit_decimal, digit_above, value_decimal, up_to_largest}
 use Rattle.parse.proofs.Reading.{byte_both}
-use Rattle.parse.proofs.Spelling.{Each, each_append, each_as, digit_in_word, digits_each}
+use Rattle.parse.proofs.Spelling.{Each, each_as, digit_in_word, digits_each}
 
 -- ---- digits one behind the other
 

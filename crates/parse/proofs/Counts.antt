@@ -1,8 +1,8 @@
 -- Laws of how many values words give, where all are good. Assumes nothing.
-use mathlib.Core.Bool.{Bool, true, false, true≢false}
+use mathlib.Core.Bool.{true, false, true≢false}
 use mathlib.Core.List.{List, [], ◌∷◌, ◌++◌}
-use mathlib.Core.Path.{◌≡◌, refl, sym, ap, ◌∙◌}
-use Prim.Native.Nat.{ℕ, zero, suc, ◌+◌, ◌*◌, ◌-◌, ◌≤◌, ◌<◌}
+use mathlib.Core.Path.{◌≡◌, refl, sym}
+use Prim.Native.Nat.{ℕ, zero, suc, ◌+◌, ◌≤◌, ◌<◌}
 use native.Mathlib.Omega.{arith}
 use lib.ListN.{length, drop, get_or, length-append, length-drop, get_or-append}
 use Rattle.rules.specs.Rules.{pick}
@@ -15,7 +15,6 @@ use Rattle.parse.specs.declared.number.Number.{Number}
 use Rattle.parse.specs.declared.number.Number.TheVariants.{Is, Bad}
 use Rattle.parse.specs.declared.arguments.Rest.{Rest}
 use Rattle.parse.specs.declared.arguments.Rest.TheVariants.{Nothing, Numbers, Bytes}
-use Rattle.parse.proofs.Lines.{words_most}
 use Rattle.parse.proofs.Reading.{bytes_most}
 use Rattle.parse.proofs.Givens.{fixed_count, fixed_within}
 

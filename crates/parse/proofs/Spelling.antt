@@ -3,7 +3,7 @@
 use mathlib.Core.Bool.{Bool, true, false, not, ◌&&◌, true≢false}
 use mathlib.Core.List.{List, [], ◌∷◌, ◌++◌}
 use mathlib.Core.Logic.{◌⊎◌, inl, inr, ⊎_elim}
-use mathlib.Core.Path.{◌≡◌, refl, sym, ap, ◌∙◌}
+use mathlib.Core.Path.{◌≡◌, refl, sym}
 use Prim.Native.Nat.{ℕ, zero, suc, ◌+◌, ◌*◌, ◌≤◌, ◌<◌}
 use native.Mathlib.Omega.{arith}
 use borrow.Author.Tests.{ltb-true, leb-true, eqb-true, ne_eqb}
@@ -14,8 +14,8 @@ use Rattle.rules.proofs.Tests.{bool_cases, lt_or_ge, and_true, clash}
 use Rattle.rules.proofs.Cases.{pick_cases}
 use Rattle.parse.specs.Line.{is_blank, in_word, ended, words_on, words_of, lead, before}
 use Rattle.parse.specs.Numeral.{digit, digits_of, value_on, number_on, is_hex, number_in, up_to}
-use Rattle.parse.specs.Values.{Values, and_then, single, of_each, number_up_to, fixed_in, numbers_in, byte_of, bytes_of, bytes_in}
-use Rattle.parse.specs.Arguments.{is_empty, rest_in, arguments_in}
+use Rattle.parse.specs.Values.{Values, and_then, single, of_each, number_up_to, fixed_in, byte_of, bytes_of}
+use Rattle.parse.specs.Arguments.{rest_in, arguments_in}
 use Rattle.parse.specs.declared.number.Number.{Number}
 use Rattle.parse.specs.declared.number.Number.TheVariants.{Is, Bad}
 use Rattle.parse.specs.declared.arguments.Rest.{Rest}

@@ -2,7 +2,7 @@
 use Rattle.std.specs.Prelude.{ℕ, Bool, true, false, List, [], ◌∷◌, ◌++◌, ◌≡◌, length, drop}
 use Rattle.rules.specs.Rules.{pick}
 use Rattle.print.specs.Put.{Put}
-use Rattle.parse.specs.Values.{Values, fixed_in, numbers_in, bytes_in}
+use Rattle.parse.specs.Values.{fixed_in, numbers_in, bytes_in}
 use Rattle.parse.specs.declared.arguments.Rest.{Rest}
 use Rattle.parse.specs.declared.arguments.Rest.TheVariants.{Nothing, Numbers, Bytes}
 use Rattle.parse.specs.declared.arguments.Arguments as code

@@ -10,7 +10,6 @@ use lib.Dec.{T, eqb}
 use lib.ListN.{length, take, drop, get_or, length-append, length-drop, drop_of_length-le}
 use lib.Seq.{drop-cons, drop-drop, take_at, drop_at}
 use borrow.Author.Tests.{ne_eqb}
-use Rattle.rules.specs.Rules.{pick}
 use Rattle.rules.proofs.Tables.{both}
 use Rattle.rules.proofs.Tests.{pick_yes, pick_no}
 use Rattle.rules.proofs.Exactly.{says_eq, says_and, says_as, says_same}
@@ -18,7 +17,7 @@ use Rattle.le.specs.Le.{le_at}
 use Rattle.le.proofs.Numbers.{le_at_drop}
 use Rattle.print.specs.Text.{bytes, line_end}
 use Rattle.refusals.specs.Meaning.{Row, meanings, text_in, meaning}
-use Rattle.refusals.specs.Lines.{line_of, lines_of, up_to_end, is_of}
+use Rattle.refusals.specs.Lines.{lines_of, up_to_end, is_of}
 
 -- ---- the end of a line, byte by byte
 

@@ -1,10 +1,8 @@
 -- `finish` meets its contract. Assumes nothing.
-use mathlib.Core.Path.{◌≡◌, refl}
-use lib.ListN.{length}
-use Rattle.controller.specs.Finishing.{finish_refusal}
+use mathlib.Core.Path.{refl}
 use Rattle.controller.proofs.Validity.{valid}
 use Rattle.store.specs.Held.{held}
-use Rattle.finisher.proofs.Finishes.{Postable, refused_call, past_call, postable, finish_refused, finish_done}
+use Rattle.finisher.proofs.Finishes.{refused_call, past_call, postable, finish_refused, finish_done}
 use Rattle.finisher.proofs.Finishes.{on_posting_lem, cq_below, second_below, ring_ok, phase_below, within, status_below}
 use Rattle.finisher.proofs.finish.Goals as goal
 

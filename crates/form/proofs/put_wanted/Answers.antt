@@ -1,6 +1,5 @@
 -- `put_wanted` meets its contract. Assumes nothing.
 use mathlib.Core.Path.{◌∙◌}
-use Prim.Native.Nat.{◌-◌}
 use native.Mathlib.Omega.{arith}
 use Rattle.le.proofs.Parts.{rest_part}
 use Rattle.print.proofs.Puts.{put_length}

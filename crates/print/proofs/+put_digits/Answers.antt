@@ -1,5 +1,5 @@
 -- `put_digits` meets its contract. Assumes nothing.
-use Rattle.std.proofs.Common.{◌<◌, ◌≤◌, sym, ap, arith, length, length-append}
+use Rattle.std.proofs.Common.{sym, ap, arith, length, length-append}
 use Rattle.print.proofs.Puts.{put_none, put_then, put_as, put_length}
 use Rattle.print.proofs.Texts.{digits_none, digits_one, digits_more}
 use Rattle.print.proofs.+put_digits.Goals as goal

@@ -1,6 +1,5 @@
 -- `replay` meets its contract: each turn of the loop answers one record. Assumes nothing.
 use borrow.Author.Rules.{rules}
-use Prim.Native.Nat.{◌-◌}
 use mathlib.Core.Path.{refl}
 use native.Mathlib.Omega.{arith}
 use Rattle.trace.specs.Trace.{begun}

@@ -1,6 +1,6 @@
 -- `is_same` meets its contract: the first i bytes are equal. Assumes nothing.
 use mathlib.Core.Path.{refl, sym, ◌∙◌}
-use Prim.Native.Nat.{◌≤◌, ◌<◌, ◌-◌}
+use Prim.Native.Nat.{◌≤◌, ◌<◌}
 use native.Mathlib.Omega.{arith}
 use lib.ListN.{length}
 use Rattle.parse.proofs.Texts.{same_length, same_more, same_off, same_end}

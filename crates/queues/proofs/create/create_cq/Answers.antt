@@ -1,10 +1,8 @@
 -- `create_cq` meets its contract. Assumes nothing.
-use mathlib.Core.Path.{◌≡◌, sym, ◌∙◌}
+use mathlib.Core.Path.{sym, ◌∙◌}
 use native.Mathlib.Omega.{arith}
-use lib.ListN.{length}
-use Rattle.controller.specs.Create.{create_cq_refusal, create_cq}
-use Rattle.controller.proofs.Made.{NewCq, new_cq_lem}
-use Rattle.store.specs.Held.{held}
+use Rattle.controller.specs.Create.{create_cq}
+use Rattle.controller.proofs.Made.{new_cq_lem}
 use Rattle.queues.proofs.Changes.{unchanged, changed}
 use Rattle.queues.proofs.create.create_cq.Goals as goal
 

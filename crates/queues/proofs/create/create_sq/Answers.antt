@@ -1,11 +1,9 @@
 -- `create_sq` meets its contract. Assumes nothing.
-use mathlib.Core.Path.{◌≡◌, sym, ◌∙◌}
+use mathlib.Core.Path.{sym, ◌∙◌}
 use native.Mathlib.Omega.{arith}
-use lib.ListN.{length}
-use Rattle.controller.specs.Create.{create_sq_refusal, create_sq}
-use Rattle.controller.proofs.Made.{NewSq, new_sq_lem}
+use Rattle.controller.specs.Create.{create_sq}
+use Rattle.controller.proofs.Made.{new_sq_lem}
 use Rattle.controller.proofs.Validity.{cq_below, valid}
-use Rattle.store.specs.Held.{held}
 use Rattle.queues.proofs.Changes.{unchanged, changed}
 use Rattle.queues.proofs.create.create_sq.Goals as goal
 

@@ -7,7 +7,7 @@ use Rattle.rules.specs.Rules.{first_match}
 use Rattle.controller.specs.Controller.{Controller}
 use Rattle.controller.specs.State.{cq_at}
 use Rattle.controller.specs.Delete.{named, delete_rules, delete_cq_refusal, delete_cq}
-use Rattle.controller.proofs.Made.{DeletableCq, deletable_cq}
+use Rattle.controller.proofs.Made.{deletable_cq}
 use Rattle.store.specs.Held.{held}
 use Rattle.queues.proofs.Changes.{unchanged, changed}
 use Rattle.queues.proofs.delete.delete_cq.Goals as goal

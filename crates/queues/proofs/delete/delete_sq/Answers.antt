@@ -7,7 +7,7 @@ use Rattle.rules.specs.Rules.{first_match}
 use Rattle.controller.specs.Controller.{Controller}
 use Rattle.controller.specs.State.{sq_at}
 use Rattle.controller.specs.Delete.{busy, delete_rules, delete_sq_refusal, delete_sq}
-use Rattle.controller.proofs.Made.{DeletableSq, deletable_sq}
+use Rattle.controller.proofs.Made.{deletable_sq}
 use Rattle.store.specs.Held.{held}
 use Rattle.queues.proofs.Changes.{unchanged, changed}
 use Rattle.queues.proofs.delete.delete_sq.Goals as goal

@@ -1,9 +1,8 @@
 -- `is_busy` meets its contract. The loop's invariant: no tag passed is that of an outstanding command of the queue; the measure is how
 -- many are left. Assumes nothing.
-use Prim.Native.Nat.{◌-◌}
 use mathlib.Core.Path.{sym, ◌∙◌}
 use native.Mathlib.Omega.{arith}
-use Rattle.controller.specs.Delete.{taken_from, busy}
+use Rattle.controller.specs.Delete.{busy}
 use Rattle.queues.proofs.Scans.{begins, goes_on, found, ends}
 use Rattle.queues.proofs.delete.is_busy.Goals as goal
 

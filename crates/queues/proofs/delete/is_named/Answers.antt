@@ -1,5 +1,4 @@
 -- `is_named` meets its contract. The loop's invariant: no queue passed names the other; the measure is how many are left. Assumes nothing.
-use Prim.Native.Nat.{◌-◌}
 use mathlib.Core.Path.{sym, ◌∙◌}
 use native.Mathlib.Omega.{arith}
 use Rattle.controller.specs.Delete.{named}

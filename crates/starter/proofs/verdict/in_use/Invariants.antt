@@ -1,5 +1,4 @@
 -- `in_use` meets its contract. The invariant: the tags in `left` are still to be looked at. Assumes nothing.
-use Prim.Native.Nat.{◌-◌}
 use Rattle.store.specs.Held.{held}
 use Rattle.starter.proofs.Verdicts.{ToSee}
 use Rattle.starter.proofs.verdict.in_use.Given as goal
