@@ -9,11 +9,12 @@ use Rattle.starter.proofs.Takings.{one_refused, one_numberless, one_started}
 use Rattle.starter.proofs.take.take_one.Goals as goal
 
 pub returns-in_default : goal.returns-in_default
-returns-in_default c = (
-  c.requires.1,
-  λ m. one_refused (held c.args.state.now) m _ _ _
-      (sym (c.take_one.ensures.value ∙ ap taken_one c.free_of.ensures) ∙ c.in_default.is),
-)
+returns-in_default c =
+    let sound = c.requires.1 in (
+      sound,
+      λ m. one_refused (held c.args.state.now) m _ _ _
+          (sym (c.take_one.ensures.value ∙ ap taken_one c.free_of.ensures) ∙ c.in_default.is),
+    )
 
 pub returns-then-number-gt-LAST_NUMBER : goal.returns-then-number-gt-LAST_NUMBER
 returns-then-number-gt-LAST_NUMBER c = (
