@@ -3,6 +3,6 @@
 // shadow doorbells give them, are dropped.
 #![tactic(auto)]
 
-fn main() {
-    dialogue::run();
+fn main(rt: HostRuntime) {
+    dialogue::run(&rt, &mut rt.stdin(), &mut rt.stdout());
 }

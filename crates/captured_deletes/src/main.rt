@@ -5,6 +5,6 @@
 // commands are outstanding (33) but ends and posts these first, so that no answer here is 33.
 #![tactic(auto)]
 
-fn main() {
-    dialogue::run();
+fn main(rt: HostRuntime) {
+    dialogue::run(&rt, &mut rt.stdin(), &mut rt.stdout());
 }

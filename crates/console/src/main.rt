@@ -1,6 +1,6 @@
 // The console. Its stored input is a guided tour of the rules.
 #![tactic(auto)]
 
-fn main() {
-    dialogue::run();
+fn main(rt: HostRuntime) {
+    dialogue::run(&rt, &mut rt.stdin(), &mut rt.stdout());
 }

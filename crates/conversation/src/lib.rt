@@ -15,6 +15,7 @@ ghost use Rattle.conversation.specs.Steps.{none_read, Kept, Sized, Took, buffers
 use form::{Form, indent, put_aside, put_line};
 use language::sizes::{ANSWER_BYTES, MEMORY_BYTES, NUMBERS};
 use lines::{Found, HELD_BYTES, Lines};
+use std::io::Read;
 use store::WORDS;
 
 // What is written at once.
@@ -104,14 +105,14 @@ pub fn answer(
 }
 
 // A step of the reader of lines: in the chunk, or, where that is used up and more may come, by a read.
-fn read(fd: i32, lines: Lines, chunk: &mut [u8], line: &mut [u8]) -> lines::Step
+fn read(input: &mut impl Read, lines: Lines, chunk: &mut [u8], line: &mut [u8]) -> lines::Step
     requires { Inside lines × (length chunk.old ≡ chunk_bytes) × (length line.old ≡ held_bytes) }
     ensures { Took lines chunk.old line.old line.new result }
 {
     if lines.more {
         if lines.read == lines.count {
-            let input = stream::read(fd, chunk);
-            return lines::filled(lines, input.count, input.error);
+            let got = stream::read(input, chunk);
+            return lines::filled(lines, got.count, got.error);
         }
     }
     lines::scan(lines, chunk, line)
@@ -135,7 +136,7 @@ fn without_line(conversation: Conversation, found: Found, at: usize) -> Step
 // in.
 pub fn next(
     s: Conversation,
-    fd: i32,
+    input: &mut impl Read,
     form: Form,
     state: &mut [u64; WORDS],
     memory: &mut [u8],
@@ -153,7 +154,7 @@ pub fn next(
         (buffers state.old memory.old line.old out.old)
         (buffers state.new memory.new line.new out.new) result }
 {
-    let step = read(fd, s.lines, chunk, line);
+    let step = read(input, s.lines, chunk, line);
     let lines = step.lines;
     let found = step.found;
     let Found::Line = found else {

@@ -1,4 +1,4 @@
-// A conversation in the console's language: lines are read from standard input, and the answers written to standard output.
+// A conversation in the console's language: lines are read from an input, and the answers written to an output.
 #![tactic(auto)]
 
 ghost use Rattle.std.specs.Prelude.{◌≡◌, ◌+◌, ◌≤◌, length};
@@ -11,8 +11,8 @@ ghost use Rattle.dialogue.specs.Kept.{Kept};
 use conversation::{Conversation, OUT_BYTES, ROOM_BYTES};
 use form::Form;
 use language::sizes::{MEMORY_BYTES, NUMBERS, WALK_BYTES};
-use libc::{STDERR_FILENO, STDIN_FILENO};
 use lines::{CHUNK_BYTES, Found, HELD_BYTES};
+use std::io::{Read, Write};
 use store::{Controller, WORDS};
 
 // Of how many lines the answers are written out, and how many bytes of answers are not yet; whether the conversation goes on,
@@ -27,22 +27,19 @@ struct Dialogue {
 }
 
 // Says on standard error what failed, by which error and where, and ends the conversation.
-fn fail(mut s: Dialogue, what: &[u8], error: u64) -> Dialogue
+fn fail(rt: &impl Eprint, mut s: Dialogue, what: &str, error: u64) -> Dialogue
     ensures { (result.conversation ≡ s.conversation) × (result.unwritten ≡ s.unwritten) }
 {
-    io::write_all(STDERR_FILENO, b"console: ");
-    io::write_all(STDERR_FILENO, what);
-    io::write_all(STDERR_FILENO, b" error ");
-    io::print_decimal(STDERR_FILENO, error);
-    io::write_all(STDERR_FILENO, b" at line ");
-    io::print_decimal(STDERR_FILENO, std::num::wrapping_add_u64(s.answered, 1));
-    io::write_all(STDERR_FILENO, b": all lines before it are answered\n");
+    let line = s.answered.wrapping_add(1);
+    let _ = eprintln!(rt;
+        "console: {what} error {error} at line {line}: all lines before it are answered"
+    );
     s.open = false;
     s
 }
 
 // Writes the answers out.
-fn write_out(mut s: Dialogue, out: &[u8]) -> Dialogue
+fn write_out(rt: &impl Eprint, output: &mut impl Write, mut s: Dialogue, out: &[u8]) -> Dialogue
     requires { (s.unwritten ≤ out_bytes) × (out_bytes ≡ length out.now) }
     ensures { (result.conversation ≡ s.conversation) × (result.unwritten ≡ 0) }
 {
@@ -51,9 +48,9 @@ fn write_out(mut s: Dialogue, out: &[u8]) -> Dialogue
     if !s.open {
         return s;
     }
-    let error = stream::write(&out[..n]);
+    let error = stream::write(output, &out[..n]);
     if error > 0 {
-        return fail(s, b"write", error);
+        return fail(rt, s, "write", error);
     }
     let conversation = s.conversation;
     let lines = conversation.lines;
@@ -62,33 +59,39 @@ fn write_out(mut s: Dialogue, out: &[u8]) -> Dialogue
 }
 
 // Writes the answers out where there is little room left for another, and before more is read.
-fn with_room(s: Dialogue, out: &[u8]) -> Dialogue
+fn with_room(rt: &impl Eprint, output: &mut impl Write, s: Dialogue, out: &[u8]) -> Dialogue
     requires { (s.unwritten ≤ out_bytes) × (out_bytes ≡ length out.now) }
     ensures { (result.conversation ≡ s.conversation) × (result.unwritten + room_bytes ≤ out_bytes) }
 {
     if OUT_BYTES - s.unwritten < ROOM_BYTES {
-        return write_out(s, out);
+        return write_out(rt, output, s, out);
     }
     let conversation = s.conversation;
     let lines = conversation.lines;
     if lines.read == lines.count {
-        return write_out(s, out);
+        return write_out(rt, output, s, out);
     }
     s
 }
 
 // Writes the last answers out.
-fn finish(s: Dialogue, out: &[u8]) -> Dialogue
+fn finish(rt: &impl Eprint, output: &mut impl Write, s: Dialogue, out: &[u8]) -> Dialogue
     requires { (s.unwritten ≤ out_bytes) × (out_bytes ≡ length out.now) }
     ensures { (result.conversation ≡ s.conversation) × (result.unwritten ≤ out_bytes) }
 {
-    let mut last = write_out(s, out);
+    let mut last = write_out(rt, output, s, out);
     last.open = false;
     last
 }
 
 // What comes of a step in the input.
-fn after(mut s: Dialogue, step: conversation::Step, out: &[u8]) -> Dialogue
+fn after(
+    rt: &impl Eprint,
+    output: &mut impl Write,
+    mut s: Dialogue,
+    step: conversation::Step,
+    out: &[u8],
+) -> Dialogue
     requires { (step.end ≤ out_bytes) × (out_bytes ≡ length out.now) }
     ensures { (result.conversation ≡ step.conversation) × (result.unwritten ≤ out_bytes) }
 {
@@ -98,8 +101,8 @@ fn after(mut s: Dialogue, step: conversation::Step, out: &[u8]) -> Dialogue
     s.unwritten = step.end;
     match found {
         Found::Line | Found::Nothing => s,
-        Found::End => finish(s, out),
-        Found::Failed(error) => fail(s, b"read", error),
+        Found::End => finish(rt, output, s, out),
+        Found::Failed(error) => fail(rt, s, "read", error),
     }
 }
 
@@ -118,6 +121,9 @@ fn first(form: Form) -> Dialogue
 
 // Takes a step in the input, and answers a line that ended behind the answers that are not yet written out.
 fn step(
+    rt: &impl Eprint,
+    input: &mut impl Read,
+    output: &mut impl Write,
     s: Dialogue,
     state: &mut [u64; WORDS],
     memory: &mut [u8],
@@ -136,7 +142,7 @@ fn step(
     let form = s.form;
     let step = conversation::next(
         s.conversation,
-        STDIN_FILENO,
+        input,
         form,
         state,
         memory,
@@ -148,11 +154,14 @@ fn step(
         first,
         second,
     );
-    after(s, step, out)
+    after(rt, output, s, step, out)
 }
 
 // Makes room for an answer, and takes a step where the conversation goes on.
 fn turn(
+    rt: &impl Eprint,
+    input: &mut impl Read,
+    output: &mut impl Write,
     s: Dialogue,
     state: &mut [u64; WORDS],
     memory: &mut [u8; MEMORY_BYTES],
@@ -166,18 +175,25 @@ fn turn(
     requires { Kept s state.old }
     ensures { Kept result state.new }
 {
-    let next = with_room(s, out);
+    let next = with_room(rt, output, s, out);
     if !next.open {
         return next;
     }
     step(
-        next, state, memory, chunk, line, out, numbers, first, second,
+        rt, input, output, next, state, memory, chunk, line, out, numbers, first, second,
     )
 }
 
 // Answers the lines on a controller and a memory. A proved loop has to end, and nothing says that the input does: so the turns are counted
 // down, from a number that no run uses up.
-fn converse(form: Form, state: &mut [u64; WORDS], memory: &mut [u8; MEMORY_BYTES])
+fn converse(
+    rt: &impl Eprint,
+    input: &mut impl Read,
+    output: &mut impl Write,
+    form: Form,
+    state: &mut [u64; WORDS],
+    memory: &mut [u8; MEMORY_BYTES],
+)
     requires { Reached state.old }
 {
     let mut chunk = [0u8; CHUNK_BYTES];
@@ -190,6 +206,9 @@ fn converse(form: Form, state: &mut [u64; WORDS], memory: &mut [u8; MEMORY_BYTES
     let mut turns = u64::MAX;
     while turns > 0 && s.open {
         s = turn(
+            rt,
+            input,
+            output,
             s,
             state,
             memory,
@@ -205,25 +224,25 @@ fn converse(form: Form, state: &mut [u64; WORDS], memory: &mut [u8; MEMORY_BYTES
 }
 
 // The same on a fresh controller and a memory that is all zero.
-fn begin(form: Form) {
+fn begin(rt: &impl Eprint, input: &mut impl Read, output: &mut impl Write, form: Form) {
     let created = Controller::new(0, 0);
     let controller = created.controller;
     let mut state = controller.words;
     let mut memory = [0u8; MEMORY_BYTES];
-    converse(form, &mut state, &mut memory);
+    converse(rt, input, output, form, &mut state, &mut memory);
 }
 
 // Answers each line.
-pub fn run() {
-    begin(Form::Alone);
+pub fn run(rt: &impl Eprint, input: &mut impl Read, output: &mut impl Write) {
+    begin(rt, input, output, Form::Alone);
 }
 
 // Answers each line, with what stands behind its `#` as wanted beside it.
-pub fn run_beside() {
-    begin(Form::Beside);
+pub fn run_beside(rt: &impl Eprint, input: &mut impl Read, output: &mut impl Write) {
+    begin(rt, input, output, Form::Beside);
 }
 
 // Repeats each line, also one that wants no answer, and answers under it.
-pub fn run_under() {
-    begin(Form::Under);
+pub fn run_under(rt: &impl Eprint, input: &mut impl Read, output: &mut impl Write) {
+    begin(rt, input, output, Form::Under);
 }

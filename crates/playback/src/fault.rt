@@ -1,33 +1,58 @@
-// What is said on standard error. The reason of a call that failed is the text of `errno`, so nothing is called between.
-ghost use Rattle.std.specs.Prelude.{◌≤◌, length};
+// What is said on standard error.
+ghost use Rattle.std.specs.Prelude.{◌≤◌};
 
-use libc::STDERR_FILENO;
-use print::put;
-use refusals::named::put_named;
+use std::fmt::Display;
+use std::io::{Cursor, Error, Write};
 
-// Of a file that cannot be opened.
-pub(super) fn say_path(path: &[u8])
-    requires { length path.now ≤ 4096 }
+// The room for the system's words for an error, and for its number behind them.
+const REASON_BYTES: usize = 320;
+
+// How many of the first `n` bytes stand before the last `(`, and the space before it, by which std sets an error's number off.
+fn without_number(text: &[u8], n: usize) -> usize
+    ensures { result ≤ n }
 {
-    let mut text = [0u8; 4112];
-    let from = put(&mut text, 0, b"playback: ");
-    let n = put(&mut text, from, path);
-    os::fail(&text[..n]);
+    let mut end = n;
+    for (i, byte) in text.iter().enumerate() {
+        if *byte == b'(' && i > 0 && i < n {
+            end = i - 1;
+        }
+    }
+    end
 }
 
-// Of a read or a write that failed: what it was, and the line or the record that it failed at.
-pub(super) fn say_at(what: &[u8], number: u64)
-    requires { length what.now ≤ 64 }
-{
-    let mut text = [0u8; 96];
-    let n = put_named(&mut text, 0, what, number);
-    os::fail(&text[..n]);
+// Of a call that failed: what it was, and the system's words for the reason.
+fn say(rt: &impl Eprint, what: impl Display + Drop, error: Error) {
+    let mut text = [0u8; REASON_BYTES];
+    let mut room = Cursor::new(&mut text[..]);
+    let _ = write!(room, "{error}");
+    let written = room.position();
+    let n = without_number(&text, written.min(REASON_BYTES as u64) as usize);
+    if let Ok(reason) = std::str::from_utf8(&text[..n]) {
+        let _ = eprintln!(rt; "{what}: {reason}");
+    }
+}
+
+// Of a file that cannot be opened.
+pub(super) fn say_path(rt: &impl Eprint, path: &str, error: Error) {
+    say(rt, format_args!("playback: {path}"), error);
+}
+
+// Of a path that cannot be taken from the arguments.
+pub(super) fn say_argument(rt: &impl Eprint, error: Error) {
+    say(rt, "playback: path", error);
+}
+
+// Of a read or a write that failed: what it was, the line or the record that it failed at, and the number of the error.
+pub(super) fn say_at(rt: &impl Eprint, what: &str, number: u64, error: u64) {
+    let code = i32::try_from(error).unwrap_or(i32::MAX);
+    say(
+        rt,
+        format_args!("{what} {number}"),
+        Error::from_raw_os_error(code),
+    );
 }
 
 // Of a bad line of the set-up.
-pub(super) fn say_bad(line: u64) {
-    let mut text = [0u8; 96];
-    let to = put_named(&mut text, 0, b"playback: setup, line", line);
-    let n = put(&mut text, to, b": a bad line; nothing is replayed\n");
-    io::write_all(STDERR_FILENO, &text[..n]);
+pub(super) fn say_bad(rt: &impl Eprint, line: u64) {
+    let _ = eprintln!(rt; "playback: setup, line {line}: a bad line; nothing is replayed");
 }

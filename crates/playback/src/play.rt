@@ -8,6 +8,7 @@ ghost use Rattle.playback.specs.Pieces.{taken_of, number_after};
 use crate::fault::say_at;
 use language::sizes::MEMORY_BYTES;
 use replay::replay;
+use std::io::{Read, Write};
 use store::WORDS;
 use stream::Input;
 use trace::RECORD_BYTES;
@@ -26,28 +27,41 @@ struct Play {
 fn after(records: u64, more: u64) -> u64
     ensures { result ≡ number_after records more }
 {
-    std::num::wrapping_add_u64(records, std::num::wrapping_add_u64(more, 1))
+    records.wrapping_add(more.wrapping_add(1))
 }
 
 // Writes n bytes out, the lines of the records after those that are counted, and answers whether it could.
-fn is_written(out: &[u8], n: usize, records: u64) -> bool
+fn is_written(rt: &impl Eprint, output: &mut impl Write, out: &[u8], n: usize, records: u64) -> bool
     requires { n ≤ length out.now }
 {
-    if stream::write(&out[..n]) > 0 {
-        say_at(b"playback: standard output, record", after(records, 0));
+    let error = stream::write(output, &out[..n]);
+    if error > 0 {
+        say_at(
+            rt,
+            "playback: standard output, record",
+            after(records, 0),
+            error,
+        );
         return false;
     }
     true
 }
 
 // Prints the records of a piece, given its answer records.
-fn print_piece(s: Play, trace: &[u8], answers: &[u8], out: &mut [u8]) -> Play
+fn print_piece(
+    rt: &impl Eprint,
+    output: &mut impl Write,
+    s: Play,
+    trace: &[u8],
+    answers: &[u8],
+    out: &mut [u8],
+) -> Play
     requires { (length trace.now ≤ 4096) × (4096 ≡ length answers.now) × (65536 ≡ length out.old) }
 {
     let tally = s.tally;
     let piece = put_piece(out, tally, trace, answers);
     let next = piece.tally;
-    let written = is_written(out, piece.end, tally.records);
+    let written = is_written(rt, output, out, piece.end, tally.records);
     Play {
         tally: next,
         open: s.open,
@@ -66,12 +80,14 @@ fn taken(input: Input) -> usize
 }
 
 // Looks at what was read: it goes on where the piece is full.
-fn after_read(mut s: Play, input: Input) -> Play {
+fn after_read(rt: &impl Eprint, mut s: Play, input: Input) -> Play {
     let tally = s.tally;
     if input.error > 0 {
         say_at(
-            b"playback: trace, record",
+            rt,
+            "playback: trace, record",
             after(tally.records, (input.count / RECORD_BYTES) as u64),
+            input.error,
         );
         s.good = false;
         return s;
@@ -82,6 +98,8 @@ fn after_read(mut s: Play, input: Input) -> Play {
 
 // Replays a piece on the memory that is lent, and prints its records.
 fn played(
+    rt: &impl Eprint,
+    output: &mut impl Write,
     s: Play,
     state: &mut [u64; WORDS],
     memory: &mut [u8],
@@ -95,13 +113,15 @@ fn played(
     ensures { Reached state.new }
 {
     replay(state, &mut memory[..lent], trace, answers);
-    print_piece(s, trace, answers, out)
+    print_piece(rt, output, s, trace, answers, out)
 }
 
 // Reads a piece, and replays it.
 fn step(
+    rt: &impl Eprint,
+    input: &mut impl Read,
+    output: &mut impl Write,
     s: Play,
-    fd: i32,
     state: &mut [u64; WORDS],
     memory: &mut [u8],
     lent: usize,
@@ -113,15 +133,27 @@ fn step(
     requires value { (4096 ≡ length answers.old) × (65536 ≡ length out.old) }
     ensures { Reached state.new }
 {
-    let input = stream::fill(fd, trace);
-    let next = after_read(s, input);
-    let n = taken(input);
-    played(next, state, memory, lent, &trace[..n], answers, out)
+    let got = stream::fill(input, trace);
+    let next = after_read(rt, s, got);
+    let n = taken(got);
+    played(
+        rt,
+        output,
+        next,
+        state,
+        memory,
+        lent,
+        &trace[..n],
+        answers,
+        out,
+    )
 }
 
 fn turn(
+    rt: &impl Eprint,
+    input: &mut impl Read,
+    output: &mut impl Write,
     s: Play,
-    fd: i32,
     state: &mut [u64; WORDS],
     memory: &mut [u8; MEMORY_BYTES],
     lent: usize,
@@ -132,17 +164,31 @@ fn turn(
     requires { Reached state.old × (lent ≤ memory_bytes) }
     ensures { Reached state.new }
 {
-    step(s, fd, state, memory, lent, trace, answers, out)
+    step(
+        rt, input, output, s, state, memory, lent, trace, answers, out,
+    )
 }
 
-fn print_summary(tally: Tally, out: &mut [u8; ROOM_BYTES]) {
+fn print_summary(
+    rt: &impl Eprint,
+    output: &mut impl Write,
+    tally: Tally,
+    out: &mut [u8; ROOM_BYTES],
+) {
     let n = put_summary(out, tally);
-    is_written(out, n, tally.records);
+    is_written(rt, output, out, n, tally.records);
 }
 
 // Replays the whole trace; the summary is printed where nothing has stopped it. A proved loop has to end: the turns are counted
 // down, from a number that no run uses up.
-pub(super) fn run(fd: i32, state: &mut [u64; WORDS], memory: &mut [u8; MEMORY_BYTES], lent: usize)
+pub(super) fn run(
+    rt: &impl Eprint,
+    input: &mut impl Read,
+    output: &mut impl Write,
+    state: &mut [u64; WORDS],
+    memory: &mut [u8; MEMORY_BYTES],
+    lent: usize,
+)
     requires { Reached state.old × (lent ≤ memory_bytes) }
 {
     let mut trace = [0u8; PIECE_BYTES];
@@ -156,8 +202,10 @@ pub(super) fn run(fd: i32, state: &mut [u64; WORDS], memory: &mut [u8; MEMORY_BY
     let mut turns = u64::MAX;
     while turns > 0 && s.open && s.good {
         s = turn(
+            rt,
+            input,
+            output,
             s,
-            fd,
             state,
             memory,
             lent,
@@ -168,6 +216,6 @@ pub(super) fn run(fd: i32, state: &mut [u64; WORDS], memory: &mut [u8; MEMORY_BY
         turns -= 1;
     }
     if s.good {
-        print_summary(s.tally, &mut out);
+        print_summary(rt, output, s.tally, &mut out);
     }
 }

@@ -10,11 +10,12 @@ use controller::{Finished, Started};
 use doorbells::{head_write, tail_write};
 use entry::submission::Submission;
 use finisher::finish;
-use libc::{STDIN_FILENO, STDOUT_FILENO};
 use parse::line::{Word, next_word};
 use parse::number::{Number, value_of};
 use queues::create::{create_cq, create_sq};
 use starter::start;
+use std::io;
+use std::io::Read;
 use store::{Controller, WORDS};
 
 // A page for each of the 16 submission and 16 completion rings.
@@ -37,6 +38,9 @@ const TURNS: u32 = 0xFF00;
 const OTHERS: usize = 15;
 
 const CHOICES: u64 = 960;
+
+// What is read of the plan at most.
+const INPUT_BYTES: usize = 4096;
 
 // What the batches are made of.
 const TAILS: u64 = 1;
@@ -483,8 +487,8 @@ fn digest_for(input: &[u8]) -> u64 {
     digest_of(plan_of(&input[..end]))
 }
 
-fn main() {
-    let mut input = io::buffer();
-    let n = io::count(libc::read(STDIN_FILENO, &mut input), &input);
-    io::print_decimal(STDOUT_FILENO, digest_for(&input[..n]));
+fn main(rt: HostRuntime) -> io::Result<()> {
+    let mut input = [0u8; INPUT_BYTES];
+    let n = rt.stdin().read(&mut input)?;
+    print!(rt; "{}", digest_for(&input[..n]))
 }

@@ -15,17 +15,18 @@ use form::Form;
 use language::sizes::{MEMORY_BYTES, NUMBERS, WALK_BYTES};
 use lines::{CHUNK_BYTES, Found, HELD_BYTES};
 use parse::line::next_word;
+use std::io::{Read, Write};
 use store::WORDS;
 use transcript::setup_line::put_setup_line;
 
-// How a set-up has ended: all lines are answered; or, at the line of a number, that is bad, the file cannot be read, or standard output not
-// be written. `errno` then still holds the reason.
+// How a set-up has ended: all lines are answered; or, at the line of a number, that is bad, the file cannot be read, or the output not be
+// written, with the number of the error that is the reason.
 #[derive(Clone, Copy)]
 pub enum Ended {
     Made,
     Bad(u64),
-    Unread(u64),
-    Unwritten(u64),
+    Unread { line: u64, error: u64 },
+    Unwritten { line: u64, error: u64 },
 }
 
 // How many bytes of the memory are lent, and how it has ended.
@@ -55,12 +56,12 @@ fn put_refused(line: &[u8], number: u64, refusal: u64, out: &mut [u8]) -> usize
     put_setup_line(out, 0, number, &line[start..end], refusal)
 }
 
-// Tells it, and answers whether standard output could be written.
-fn is_told(line: &[u8], number: u64, refusal: u64, out: &mut [u8]) -> bool
+// Tells it, and answers the number of the error for which the output could not be written, 0 for none.
+fn told(output: &mut impl Write, line: &[u8], number: u64, refusal: u64, out: &mut [u8]) -> u64
     requires { (length line.now ≤ held_bytes) × (out_bytes ≡ length out.old) }
 {
     let n = put_refused(line, number, refusal, out);
-    stream::write(&out[..n]) == 0
+    stream::write(output, &out[..n])
 }
 
 fn going(conversation: Conversation) -> Progress
@@ -84,7 +85,7 @@ fn stopped(conversation: Conversation, ended: Ended) -> Progress
 }
 
 // How it stands after a line, which was answered.
-fn judged(step: Step, line: &[u8], out: &mut [u8]) -> Progress
+fn judged(output: &mut impl Write, step: Step, line: &[u8], out: &mut [u8]) -> Progress
     requires { (length line.now ≤ held_bytes) × (out_bytes ≡ length out.old) }
     ensures { result.conversation ≡ step.conversation }
 {
@@ -96,14 +97,21 @@ fn judged(step: Step, line: &[u8], out: &mut [u8]) -> Progress
     if step.refusal == 0 {
         return going(conversation);
     }
-    if is_told(line, lines.ended, step.refusal, out) {
+    let error = told(output, line, lines.ended, step.refusal, out);
+    if error == 0 {
         return going(conversation);
     }
-    stopped(conversation, Ended::Unwritten(lines.ended))
+    stopped(
+        conversation,
+        Ended::Unwritten {
+            line: lines.ended,
+            error: error,
+        },
+    )
 }
 
 // How it stands after a step; a line that ended stands at the start of `line`.
-fn after(step: Step, line: &[u8], out: &mut [u8]) -> Progress
+fn after(output: &mut impl Write, step: Step, line: &[u8], out: &mut [u8]) -> Progress
     requires { (step.length ≤ held_bytes) × (length line.now ≡ held_bytes) × (out_bytes ≡ length out.old) }
     ensures { result.conversation ≡ step.conversation }
 {
@@ -113,21 +121,25 @@ fn after(step: Step, line: &[u8], out: &mut [u8]) -> Progress
     match found {
         Found::Line => {
             let n = step.length;
-            judged(step, &line[..n], out)
+            judged(output, step, &line[..n], out)
         }
         Found::Nothing => going(conversation),
         Found::End => stopped(conversation, Ended::Made),
-        Found::Failed(_) => stopped(
+        Found::Failed(error) => stopped(
             conversation,
-            Ended::Unread(std::num::wrapping_add_u64(lines.ended, 1)),
+            Ended::Unread {
+                line: lines.ended.wrapping_add(1),
+                error: error,
+            },
         ),
     }
 }
 
 // Takes a step in the file. The last two buffers are to work in.
 fn next(
+    input: &mut impl Read,
+    output: &mut impl Write,
     conversation: Conversation,
-    fd: i32,
     state: &mut [u64; WORDS],
     memory: &mut [u8; MEMORY_BYTES],
     chunk: &mut [u8; CHUNK_BYTES],
@@ -142,7 +154,7 @@ fn next(
     let mut numbers = [0u64; NUMBERS];
     let step = conversation::next(
         conversation,
-        fd,
+        input,
         Form::Alone,
         state,
         memory,
@@ -154,12 +166,17 @@ fn next(
         first,
         second,
     );
-    after(step, line, out)
+    after(output, step, line, out)
 }
 
 // Answers all lines, or those before one that stops it. A proved loop has to end: the turns are counted down, from a number that no run
 // uses up.
-pub fn run(fd: i32, state: &mut [u64; WORDS], memory: &mut [u8; MEMORY_BYTES]) -> Setup
+pub fn run(
+    input: &mut impl Read,
+    output: &mut impl Write,
+    state: &mut [u64; WORDS],
+    memory: &mut [u8; MEMORY_BYTES],
+) -> Setup
     requires { Reached state.old }
     ensures { Reached state.new × (result.lent ≤ memory_bytes) }
 {
@@ -172,8 +189,9 @@ pub fn run(fd: i32, state: &mut [u64; WORDS], memory: &mut [u8; MEMORY_BYTES]) -
     let mut turns = u64::MAX;
     while turns > 0 && s.open {
         s = next(
+            input,
+            output,
             s.conversation,
-            fd,
             state,
             memory,
             &mut chunk,

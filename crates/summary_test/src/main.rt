@@ -1,9 +1,10 @@
 // The summary of made-up answers: some of their numbers no trace of a test reaches.
 #![tactic(auto)]
 
-use libc::STDOUT_FILENO;
 use print::put_end;
 use refusals::{LARGEST, put_meaning};
+use std::io;
+use std::io::Write;
 use transcript::piece::ROOM_BYTES;
 use transcript::summary::{Tally, put_summary};
 
@@ -21,10 +22,10 @@ fn tally() -> Tally {
 }
 
 // The summary, and what is said of the number above the largest, which has no meaning of its own.
-fn main() {
+fn main(rt: HostRuntime) -> io::Result<()> {
     let mut out = [0u8; ROOM_BYTES];
     let rows = put_summary(&mut out, tally());
     let above = put_meaning(&mut out, rows, LARGEST as u64 + 1);
     let end = put_end(&mut out, above);
-    io::write_all(STDOUT_FILENO, &out[..end]);
+    rt.stdout().write_all(&out[..end])
 }
