@@ -1,5 +1,5 @@
-// What a C program links: include/bellrafter.h declares it. Here the calls on plain numbers and byte buffers. An answer of several
-// numbers goes back in a struct; beside a refusal every other number is 0.
+// What a C program calls, by the exports of `rig_c`. Here the calls on plain numbers and byte buffers. An answer of several numbers goes
+// back in a struct; beside a refusal every other number is 0.
 #![tactic(auto)]
 
 ghost use Rattle.std.specs.Prelude.{◌≡◌, length};
@@ -69,8 +69,7 @@ pub struct PagesNumbers {
 }
 
 // Writes a submission entry into the first 64 bytes of `entry`.
-#[unsafe(no_mangle)]
-pub extern "C" fn bellrafter_submission_write(
+pub fn bellrafter_submission_write(
     entry: &mut [u8],
     opc: u8,
     fuse: u64,
@@ -113,8 +112,7 @@ pub extern "C" fn bellrafter_submission_write(
 }
 
 // Reads the submission entry in the first 64 bytes of `entry`.
-#[unsafe(no_mangle)]
-pub extern "C" fn bellrafter_submission_read(entry: &[u8]) -> SubmissionNumbers
+pub fn bellrafter_submission_read(entry: &[u8]) -> SubmissionNumbers
     ensures { result ≡ submission_numbers (submission_read entry.now) }
 {
     match entry::submission::read(entry) {
@@ -156,8 +154,7 @@ pub extern "C" fn bellrafter_submission_read(entry: &[u8]) -> SubmissionNumbers
 }
 
 // Writes a completion entry into the first 16 bytes of `entry`.
-#[unsafe(no_mangle)]
-pub extern "C" fn bellrafter_completion_write(
+pub fn bellrafter_completion_write(
     entry: &mut [u8],
     res: u32,
     sqhd: u16,
@@ -173,8 +170,7 @@ pub extern "C" fn bellrafter_completion_write(
 }
 
 // Reads the completion entry in the first 16 bytes of `entry`.
-#[unsafe(no_mangle)]
-pub extern "C" fn bellrafter_completion_read(entry: &[u8]) -> CompletionNumbers
+pub fn bellrafter_completion_read(entry: &[u8]) -> CompletionNumbers
     ensures { result ≡ completion_numbers (completion_read entry.now) }
 {
     match entry::completion::read(entry) {
@@ -200,13 +196,7 @@ pub extern "C" fn bellrafter_completion_read(entry: &[u8]) -> CompletionNumbers
 }
 
 // How many completions wait in a ring, for a reader that stands at `head` and expects `phase` there.
-#[unsafe(no_mangle)]
-pub extern "C" fn bellrafter_ring_read(
-    ring: &[u8],
-    size: u64,
-    head: u64,
-    phase: u64,
-) -> WaitingNumbers
+pub fn bellrafter_ring_read(ring: &[u8], size: u64, head: u64, phase: u64) -> WaitingNumbers
     ensures { result ≡ waiting_numbers (ring_read ring.now size head phase) }
 {
     match ring::reader::read(ring, size, head, phase) {
@@ -222,24 +212,21 @@ pub extern "C" fn bellrafter_ring_read(
 }
 
 // The check of a tail value for a submission queue.
-#[unsafe(no_mangle)]
-pub extern "C" fn bellrafter_tail_check(size: u64, head: u64, tail: u64, value: u64) -> u64
+pub fn bellrafter_tail_check(size: u64, head: u64, tail: u64, value: u64) -> u64
     ensures { result ≡ tail_check size head tail value }
 {
     ring::doorbell::check_tail(size, head, tail, value)
 }
 
 // The check of a head value for a completion queue.
-#[unsafe(no_mangle)]
-pub extern "C" fn bellrafter_head_check(size: u64, head: u64, tail: u64, value: u64) -> u64
+pub fn bellrafter_head_check(size: u64, head: u64, tail: u64, value: u64) -> u64
     ensures { result ≡ head_check size head tail value }
 {
     ring::doorbell::check_head(size, head, tail, value)
 }
 
 // Walks the pages of `len` bytes at `prp1`, with the page size number `page`: 8 bytes of `addresses` and 4 of `counts` for each.
-#[unsafe(no_mangle)]
-pub extern "C" fn bellrafter_page_walk(
+pub fn bellrafter_page_walk(
     memory: &[u8],
     prp1: u64,
     prp2: u64,

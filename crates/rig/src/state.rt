@@ -97,19 +97,13 @@ pub struct ArbiterNumbers {
 }
 
 // Makes any words those of a fresh controller.
-#[unsafe(no_mangle)]
-pub extern "C" fn bellrafter_controller_new(
-    state: &mut [u64; WORDS],
-    mechanism: u64,
-    word: u32,
-) -> u64
+pub fn bellrafter_controller_new(state: &mut [u64; WORDS], mechanism: u64, word: u32) -> u64
     ensures { (result ≡ new_refusal mechanism) × Holds state.new (new_controller mechanism word) }
 {
     store::reset(state, mechanism, word)
 }
 
-#[unsafe(no_mangle)]
-pub extern "C" fn bellrafter_create_cq(
+pub fn bellrafter_create_cq(
     state: &mut [u64; WORDS],
     memory: &[u8],
     id: u64,
@@ -123,8 +117,7 @@ pub extern "C" fn bellrafter_create_cq(
     queues::create::create_cq(state, memory, id, size, base)
 }
 
-#[unsafe(no_mangle)]
-pub extern "C" fn bellrafter_create_sq(
+pub fn bellrafter_create_sq(
     state: &mut [u64; WORDS],
     memory: &[u8],
     id: u64,
@@ -140,8 +133,7 @@ pub extern "C" fn bellrafter_create_sq(
     queues::create::create_sq(state, memory, id, size, base, cq, class)
 }
 
-#[unsafe(no_mangle)]
-pub extern "C" fn bellrafter_delete_cq(state: &mut [u64; WORDS], id: u64) -> u64
+pub fn bellrafter_delete_cq(state: &mut [u64; WORDS], id: u64) -> u64
     requires { Reached state.old }
     ensures { (m : Memory) → let o = perform (held state.old) m (delete_cq id) in
         (result ≡ number_of o.answer) × Holds state.new o.controller }
@@ -149,8 +141,7 @@ pub extern "C" fn bellrafter_delete_cq(state: &mut [u64; WORDS], id: u64) -> u64
     queues::delete::delete_cq(state, id)
 }
 
-#[unsafe(no_mangle)]
-pub extern "C" fn bellrafter_delete_sq(state: &mut [u64; WORDS], id: u64) -> u64
+pub fn bellrafter_delete_sq(state: &mut [u64; WORDS], id: u64) -> u64
     requires { Reached state.old }
     ensures { (m : Memory) → let o = perform (held state.old) m (delete_sq id) in
         (result ≡ number_of o.answer) × Holds state.new o.controller }
@@ -158,8 +149,7 @@ pub extern "C" fn bellrafter_delete_sq(state: &mut [u64; WORDS], id: u64) -> u64
     queues::delete::delete_sq(state, id)
 }
 
-#[unsafe(no_mangle)]
-pub extern "C" fn bellrafter_tail_write(state: &mut [u64; WORDS], id: u64, value: u64) -> u64
+pub fn bellrafter_tail_write(state: &mut [u64; WORDS], id: u64, value: u64) -> u64
     requires { Reached state.old }
     ensures { (m : Memory) → let o = perform (held state.old) m (tail_write id value) in
         (result ≡ number_of o.answer) × Holds state.new o.controller }
@@ -167,8 +157,7 @@ pub extern "C" fn bellrafter_tail_write(state: &mut [u64; WORDS], id: u64, value
     doorbells::tail_write(state, id, value)
 }
 
-#[unsafe(no_mangle)]
-pub extern "C" fn bellrafter_head_write(state: &mut [u64; WORDS], id: u64, value: u64) -> u64
+pub fn bellrafter_head_write(state: &mut [u64; WORDS], id: u64, value: u64) -> u64
     requires { Reached state.old }
     ensures { (m : Memory) → let o = perform (held state.old) m (head_write id value) in
         (result ≡ number_of o.answer) × Holds state.new o.controller }
@@ -176,8 +165,7 @@ pub extern "C" fn bellrafter_head_write(state: &mut [u64; WORDS], id: u64, value
     doorbells::head_write(state, id, value)
 }
 
-#[unsafe(no_mangle)]
-pub extern "C" fn bellrafter_start(state: &mut [u64; WORDS], memory: &[u8]) -> StartNumbers
+pub fn bellrafter_start(state: &mut [u64; WORDS], memory: &[u8]) -> StartNumbers
     requires { Reached state.old }
     ensures { let o = perform (held state.old) memory.now start_call in
         (result ≡ start_numbers o.answer) × Holds state.new o.controller }
@@ -229,8 +217,7 @@ pub extern "C" fn bellrafter_start(state: &mut [u64; WORDS], memory: &[u8]) -> S
     }
 }
 
-#[unsafe(no_mangle)]
-pub extern "C" fn bellrafter_finish(
+pub fn bellrafter_finish(
     state: &mut [u64; WORDS],
     memory: &mut [u8],
     tag: u64,
@@ -256,8 +243,7 @@ pub extern "C" fn bellrafter_finish(
 }
 
 // The calls of a plant's trace, with an answer record for each record.
-#[unsafe(no_mangle)]
-pub extern "C" fn bellrafter_replay(
+pub fn bellrafter_replay(
     state: &mut [u64; WORDS],
     memory: &mut [u8],
     trace: &[u8],
@@ -302,8 +288,7 @@ fn no_sq(refusal: u64) -> SqNumbers
 }
 
 // A submission queue, or 1 or 9.
-#[unsafe(no_mangle)]
-pub extern "C" fn bellrafter_look_sq(state: &[u64; WORDS], id: u64) -> SqNumbers
+pub fn bellrafter_look_sq(state: &[u64; WORDS], id: u64) -> SqNumbers
     ensures { result ≡ sq_numbers (held state.now) id }
 {
     if Controller::LAST_QUEUE < id {
@@ -340,8 +325,7 @@ fn no_cq(refusal: u64) -> CqNumbers
 }
 
 // A completion queue, or 1 or 9.
-#[unsafe(no_mangle)]
-pub extern "C" fn bellrafter_look_cq(state: &[u64; WORDS], id: u64) -> CqNumbers
+pub fn bellrafter_look_cq(state: &[u64; WORDS], id: u64) -> CqNumbers
     ensures { result ≡ cq_numbers (held state.now) id }
 {
     if Controller::LAST_QUEUE < id {
@@ -363,8 +347,7 @@ pub extern "C" fn bellrafter_look_cq(state: &[u64; WORDS], id: u64) -> CqNumbers
 }
 
 // An outstanding command, or 14.
-#[unsafe(no_mangle)]
-pub extern "C" fn bellrafter_look_command(state: &[u64; WORDS], tag: u64) -> CommandNumbers
+pub fn bellrafter_look_command(state: &[u64; WORDS], tag: u64) -> CommandNumbers
     ensures { result ≡ command_numbers (held state.now) tag }
 {
     if !is_outstanding(free_of(state), tag) {
@@ -396,8 +379,7 @@ fn number_of(r: Remainder) -> u64
 }
 
 // Turn holders, remainders and credits.
-#[unsafe(no_mangle)]
-pub extern "C" fn bellrafter_look_arbiter(state: &[u64; WORDS]) -> ArbiterNumbers
+pub fn bellrafter_look_arbiter(state: &[u64; WORDS]) -> ArbiterNumbers
     ensures { result ≡ arbiter_numbers (held state.now).arbiter }
 {
     let a = arbiter_of(state);
