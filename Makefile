@@ -1,6 +1,6 @@
 # Builds the C library from the proved archive, installs it, builds the example.
 #
-#   make                  the archive target/staticlib/librig.a (rt staticlib rig, proved first), and from it
+#   make                  the archive crates/rig_c/out/librig_c.a (rt lib in crates/rig_c, proved first), and from it
 #                         target/lib/libbellrafter.a and target/lib/libbellrafter.so
 #   make install          header, libraries and pkg-config file under PREFIX, below DESTDIR if that is set
 #   make uninstall        removes what install has put there
@@ -22,12 +22,12 @@ MAJOR := $(shell sed -n 's/^\#define BELLRAFTER_VERSION_MAJOR //p' $(HEADER))
 MINOR := $(shell sed -n 's/^\#define BELLRAFTER_VERSION_MINOR //p' $(HEADER))
 VERSION = $(MAJOR).$(MINOR)
 
-ARCHIVE = target/staticlib/librig.a
+ARCHIVE = crates/rig_c/out/librig_c.a
 LIB = target/lib
 STATIC = $(LIB)/libbellrafter.a
 SHARED = $(LIB)/libbellrafter.so
 EXAMPLE = target/examples/judge
-PROVED := crates.txt $(shell find crates -name '*.rt' -o -name '*.antt')
+PROVED := crates.txt $(shell find crates -name out -prune -o '(' -name '*.rt' -o -name '*.antt' ')' -print)
 
 all: static shared
 
@@ -36,7 +36,7 @@ static: $(STATIC)
 shared: $(SHARED)
 
 $(ARCHIVE): $(PROVED)
-	rt staticlib rig
+	cd crates/rig_c && rt lib
 	@touch $@
 
 $(STATIC): $(ARCHIVE)
