@@ -1,8 +1,9 @@
-// Reading from a file and writing to standard output. A call that a signal interrupted, or that a non-blocking stream could
-// not make yet, is made again.
+// Reading from an input and writing to an output. A call that a signal interrupted, or that a non-blocking stream could not make
+// yet, is made again.
 #![tactic(auto)]
 
 ghost use Rattle.std.specs.Prelude.{◌≡◌, ◌^◌, ◌≤◌, ◌<◌, length, take};
+ghost use Rattle.std.specs.Io.KnownBytes.{Appends, Consumes, IsAtEnd};
 ghost use Rattle.stream.specs.Stops.{number_of, Stops, Fatal};
 
 use std::io;
@@ -61,9 +62,11 @@ fn fatal(failed: io::Error) -> u64
 
 // Reads once: 0 bytes at the end of the input. A proved loop has to end: the tries are counted down, from a number that no
 // run uses up.
-pub fn read(input: &mut impl Read, buf: &mut [u8]) -> Input
+pub fn read<R: Read>(input: &mut R, buf: &mut [u8]) -> Input
     ensures prefix_len { (result.count ≤ length buf.new) × (result.count ≡ length (take result.count buf.new)) }
     ensures stops { Stops result.error × (0 < result.error → result.count ≡ 0) }
+    ensures bytes { Consumes (R.remaining input.old) (R.remaining input.new) (take result.count buf.new) }
+    ensures end { result.count ≡ 0 → result.error ≡ 0 → 0 < length buf.new → IsAtEnd (R.remaining input.new) }
 {
     let mut tries = u64::MAX;
     while tries > 0 {
@@ -93,9 +96,11 @@ pub fn read(input: &mut impl Read, buf: &mut [u8]) -> Input
 }
 
 // Reads until the buffer is full, the input ends or an error stops it, which may be after some bytes.
-pub fn fill(input: &mut impl Read, buf: &mut [u8]) -> Input
+pub fn fill<R: Read>(input: &mut R, buf: &mut [u8]) -> Input
     ensures count_in_bounds { result.count ≤ length buf.new }
     ensures stops { Stops result.error × (0 < result.error → result.count < length buf.new) }
+    ensures bytes { Consumes (R.remaining input.old) (R.remaining input.new) (take result.count buf.new) }
+    ensures end { result.error ≡ 0 → result.count < length buf.new → IsAtEnd (R.remaining input.new) }
 {
     let mut done: usize = 0;
     while done < buf.len() {
@@ -115,8 +120,9 @@ pub fn fill(input: &mut impl Read, buf: &mut [u8]) -> Input
 }
 
 // Writes a text out, however many calls that takes, and answers the number of the error that stopped it, 0 for none.
-pub fn write(output: &mut impl Write, text: &[u8]) -> u64
-    ensures { Stops result × (length text.now ≡ 0 → result ≡ 0) }
+pub fn write<W: Write>(output: &mut W, text: &[u8]) -> u64
+    ensures stops { Stops result × (length text.now ≡ 0 → result ≡ 0) }
+    ensures bytes { result ≡ 0 → Appends (W.contents output.old) (W.contents output.new) text.now }
 {
     let mut done: usize = 0;
     let mut tries = u64::MAX;

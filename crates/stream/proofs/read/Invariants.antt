@@ -1,4 +1,8 @@
+use Rattle.std.specs.Io.KnownBytes.{Keeps}
 use Rattle.stream.proofs.read.Given as goal
+
+abbrev pub invariant-loop-tries : goal.invariant-loop-tries
+invariant-loop-tries g l = Keeps (g.R.Read.remaining l.initial.input) (g.R.Read.remaining l.input)
 
 abbrev pub decreases-loop-tries : goal.decreases-loop-tries
 decreases-loop-tries g l = l.tries

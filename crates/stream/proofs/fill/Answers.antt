@@ -1,0 +1,15 @@
+-- What is read stands behind what was read before. Assumes nothing.
+use Rattle.std.proofs.Common.{arith, subst, List, ℕ, sym}
+use Rattle.std.specs.Io.KnownBytes.{Consumes}
+use Rattle.stream.proofs.Known.{consumes_twice, take_behind}
+use Rattle.stream.proofs.fill.Goals as goal
+
+pub loop-done-preserved : goal.loop-done-preserved
+loop-done-preserved g c =
+    let l = c.loop-done in
+    let m = c.read-more in (
+      omega arith,
+      subst (λ (bs : List ℕ). Consumes (g.R.Read.remaining c.args.input.now) (g.R.Read.remaining m.new.input) bs)
+          (sym (take_behind l.done m.result.count l.buf m.new.buf _ l.invariant.0 m.ensures.prefix_len.0))
+          (consumes_twice _ _ _ _ _ l.invariant.1 m.ensures.bytes),
+    )
