@@ -1,6 +1,8 @@
 -- A dialogue is kept with its conversation. Assumes nothing.
 use Rattle.std.proofs.Common.{◌≡◌, ℕ, ◌≤◌, List, sym, subst, arith}
-use Rattle.store.specs.Held.{Reached}
+use Rattle.controller.specs.State.{new_controller}
+use Rattle.store.specs.Held.{Holds}
+use Rattle.store.proofs.Fresh.{reached_new}
 use Rattle.conversation.specs.Sizes.{out_bytes}
 use Rattle.conversation.specs.Steps as conversation
 use Rattle.conversation.specs.declared.Conversation.{Conversation}
@@ -16,13 +18,10 @@ kept_with {words = words} e k h = record {
 }
 
 -- no line is read yet
-pub kept_first : {s : Dialogue} {words : List ℕ} → s.conversation ≡ conversation.none_read → s.unwritten ≡ 0 → Reached words
-    → Kept s words
-kept_first e u h =
-    kept_with e
-    (record {
-      reached = h;
+pub kept_first : {words : List ℕ} → Holds words (new_controller 0 0) → conversation.Kept conversation.none_read words
+kept_first h =
+    record {
+      reached = reached_new 0 0 h;
       lent = omega arith;
       lines = record { place = omega arith; chunk = omega arith; line = omega arith };
-    })
-    (omega arith)
+    }

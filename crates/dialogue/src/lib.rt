@@ -2,7 +2,6 @@
 #![tactic(auto)]
 
 ghost use Rattle.std.specs.Prelude.{◌≡◌, ◌+◌, ◌≤◌, length};
-ghost use Rattle.store.specs.Held.{Reached};
 ghost use Rattle.shell.specs.Leaving.{Working};
 ghost use Rattle.conversation.specs.Sizes.{out_bytes, room_bytes};
 ghost use Rattle.conversation.specs.Steps.{none_read, Sized};
@@ -184,18 +183,13 @@ fn turn(
     )
 }
 
-// Answers the lines on a controller and a memory. A proved loop has to end, and nothing says that the input does: so the turns are counted
-// down, from a number that no run uses up.
-fn converse(
-    rt: &impl Eprint,
-    input: &mut impl Read,
-    output: &mut impl Write,
-    form: Form,
-    state: &mut [u64; WORDS],
-    memory: &mut [u8; MEMORY_BYTES],
-)
-    requires { Reached state.old }
-{
+// A proved loop has to end, and nothing says that the input does: so the turns are counted down, from a number that no run
+// uses up.
+fn converse(rt: &impl Eprint, input: &mut impl Read, output: &mut impl Write, form: Form) {
+    let created = Controller::new(0, 0);
+    let controller = created.controller;
+    let mut state = controller.words;
+    let mut memory = [0u8; MEMORY_BYTES];
     let mut chunk = [0u8; CHUNK_BYTES];
     let mut line = [0u8; HELD_BYTES];
     let mut out = [0u8; OUT_BYTES];
@@ -210,8 +204,8 @@ fn converse(
             input,
             output,
             s,
-            state,
-            memory,
+            &mut state,
+            &mut memory,
             &mut chunk,
             &mut line,
             &mut out,
@@ -223,26 +217,17 @@ fn converse(
     }
 }
 
-// The same on a fresh controller and a memory that is all zero.
-fn begin(rt: &impl Eprint, input: &mut impl Read, output: &mut impl Write, form: Form) {
-    let created = Controller::new(0, 0);
-    let controller = created.controller;
-    let mut state = controller.words;
-    let mut memory = [0u8; MEMORY_BYTES];
-    converse(rt, input, output, form, &mut state, &mut memory);
-}
-
 // Answers each line.
 pub fn run(rt: &impl Eprint, input: &mut impl Read, output: &mut impl Write) {
-    begin(rt, input, output, Form::Alone);
+    converse(rt, input, output, Form::Alone);
 }
 
 // Answers each line, with what stands behind its `#` as wanted beside it.
 pub fn run_beside(rt: &impl Eprint, input: &mut impl Read, output: &mut impl Write) {
-    begin(rt, input, output, Form::Beside);
+    converse(rt, input, output, Form::Beside);
 }
 
 // Repeats each line, also one that wants no answer, and answers under it.
 pub fn run_under(rt: &impl Eprint, input: &mut impl Read, output: &mut impl Write) {
-    begin(rt, input, output, Form::Under);
+    converse(rt, input, output, Form::Under);
 }
