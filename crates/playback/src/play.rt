@@ -1,5 +1,5 @@
 // The trace, replayed and printed piece by piece. A replay of two traces joined at a record's end is the first replay and then the
-// second (trace Joined.records-join, replay Joined.played-join), so the pieces give what one replay of the whole gives.
+// second (trace Joined.records_join, replay Joined.played_join), so the pieces give what one replay of the whole gives.
 ghost use Rattle.std.specs.Prelude.{◌≡◌, ◌≤◌, length};
 ghost use Rattle.store.specs.Held.{Reached};
 ghost use Rattle.language.specs.Vocabulary.{memory_bytes};
