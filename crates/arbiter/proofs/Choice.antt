@@ -1,4 +1,5 @@
 -- Whom the choice names: a candidate, exactly if one is among the queues that the mechanism looks at. Assumes nothing.
+use Rattle.std.specs.Prelude.{Option, Some, None}
 use Prim.Native.Nat.{ℕ, ◌+◌, ◌-◌, ◌%◌, ◌^◌, ◌≤◌, ◌<◌}
 use mathlib.Core.Bool.{Bool, true, false, ◌&&◌, ◌||◌}
 use mathlib.Core.Logic.{⊎_elim, ◌↔◌}
@@ -19,18 +20,10 @@ use Rattle.arbiter.specs.declared.Group.{Group}
 use Rattle.arbiter.specs.declared.Level.{Level}
 use Rattle.arbiter.specs.declared.Arbiter.{Arbiter}
 use Rattle.arbiter.specs.declared.Candidates.{Candidates}
-use Rattle.arbiter.specs.declared.Next.{Next}
-use Rattle.arbiter.specs.declared.Next.TheVariants as N
-use Rattle.arbiter.specs.declared.Turn.{Turn}
-use Rattle.arbiter.specs.declared.Turn.TheVariants as T
-use Rattle.arbiter.specs.declared.LevelTurn.{LevelTurn}
-use Rattle.arbiter.specs.declared.LevelTurn.TheVariants as L
-use Rattle.arbiter.specs.declared.Chosen.{Chosen}
-use Rattle.arbiter.specs.declared.Chosen.TheVariants.{Queue, Nobody}
 use Rattle.arbiter.specs.Word.{burst_of}
 use Rattle.arbiter.specs.Turns.{next_after, above_zero, takes, turn}
 use Rattle.arbiter.specs.Arbiter.{with_group, with_levels, refilled, some, ready, level_full, charged, level_turn, some_waits, some_ready}
-use Rattle.arbiter.specs.Arbiter.{refilled_if_due, of_turn, of_level, or_else, by_group, by_level, by_weight, choice, chosen_answer}
+use Rattle.arbiter.specs.Arbiter.{refilled_if_due, of_turn, of_turn, or_else, by_group, by_level, by_weight, choice, chosen_answer}
 use Rattle.arbiter.specs.Arbiter.{next_answer, turn_answer, level_answer, group_refusal, level_refusal, anyone, choice_refusal}
 use Rattle.arbiter.proofs.Levels.{ready_parts, due_refilled, not_due_kept}
 
@@ -78,44 +71,33 @@ or_assoc true y z = refl
 or_assoc false y z = refl
 
 module _ (P : ℕ → Type 0) where
-  abbrev NextIs : Bool → Next → Type 0
-  NextIs b (N.Id i) = (b ≡ true) × P i
-  NextIs b N.Nobody = b ≡ false
+  abbrev NextIs : Bool → Option ℕ → Type 0
+  NextIs b (Some i) = (b ≡ true) × P i
+  NextIs b None = b ≡ false
 
-  abbrev pub TurnIs : Bool → Turn → Type 0
-  TurnIs b (T.Served i g) = (b ≡ true) × P i
-  TurnIs b T.Idle = b ≡ false
-
-  abbrev pub LevelIs : Bool → LevelTurn → Type 0
-  LevelIs b (L.Served i l) = (b ≡ true) × P i
-  LevelIs b L.Idle = b ≡ false
-
-  abbrev ChosenIs : Bool → Chosen → Type 0
-  ChosenIs b (Queue i a) = (b ≡ true) × P i
-  ChosenIs b Nobody = b ≡ false
+  -- of a group, a level or the arbiter
+  abbrev pub TurnIs : {A : Type 0} → Bool → Option (ℕ × A) → Type 0
+  TurnIs b (Some (i, x)) = (b ≡ true) × P i
+  TurnIs b None = b ≡ false
 
   module _ (b : Bool) where
-    takes_is : (full : Remainder) (x : Next) → NextIs b x → TurnIs b (takes full x)
-    takes_is full (N.Id i) h = h
-    takes_is full N.Nobody h = h
+    takes_is : (full : Remainder) (x : Option ℕ) → NextIs b x → TurnIs b (takes full x)
+    takes_is full (Some i) h = h
+    takes_is full None h = h
 
-    charged_is : (n : ℕ) (x : Turn) → TurnIs b x → LevelIs b (charged n x)
-    charged_is n (T.Served i g) h = h
-    charged_is n T.Idle h = h
+    charged_is : (n : ℕ) (x : Option (ℕ × Group)) → TurnIs b x → TurnIs b (charged n x)
+    charged_is n (Some (i, g)) h = h
+    charged_is n None h = h
 
-    of_turn_is : (f : Group → Arbiter) (x : Turn) → TurnIs b x → ChosenIs b (of_turn f x)
-    of_turn_is f (T.Served i g) h = h
-    of_turn_is f T.Idle h = h
+    of_turn_is : {A : Type 0} (f : A → Arbiter) (x : Option (ℕ × A)) → TurnIs b x → TurnIs b (of_turn f x)
+    of_turn_is f (Some (i, x)) h = h
+    of_turn_is f None h = h
 
-    of_level_is : (f : Level → Arbiter) (x : LevelTurn) → LevelIs b x → ChosenIs b (of_level f x)
-    of_level_is f (L.Served i l) h = h
-    of_level_is f L.Idle h = h
+    or_is : (d : Bool) (x y : Option (ℕ × Arbiter)) → TurnIs b x → TurnIs d y → TurnIs (b || d) (or_else x y)
+    or_is d (Some (i, a)) y h k = rw h.0 (refl, h.1)
+    or_is d None y h k = rw h k
 
-    or_is : (d : Bool) (x y : Chosen) → ChosenIs b x → ChosenIs d y → ChosenIs (b || d) (or_else x y)
-    or_is d (Queue i a) y h k = rw h.0 (refl, h.1)
-    or_is d Nobody y h k = rw h k
-
-  pick_is : (t b d : Bool) (x y : Chosen) → ChosenIs b x → ChosenIs d y → ChosenIs (pick t b d) (pick t x y)
+  pick_is : (t b d : Bool) (x y : Option (ℕ × Arbiter)) → TurnIs b x → TurnIs d y → TurnIs (pick t b d) (pick t x y)
   pick_is true b d x y h k = h
   pick_is false b d x y h k = k
 
@@ -148,7 +130,7 @@ module _ (P : ℕ → Type 0) where
         (takes_is (some p) full (next_after p g.holder) (next_is g.holder)))
         (bool_cases (p g.holder && above_zero g.remainder))
 
-    pub level_is : (b : Remainder) (l : Level) → LevelIs (ready l p) (level_turn b l p)
+    pub level_is : (b : Remainder) (l : Level) → TurnIs (ready l p) (level_turn b l p)
     unfolding level_turn
     level_is b l =
         let full = level_full b l.credit in
@@ -157,7 +139,7 @@ module _ (P : ℕ → Type 0) where
         rw e (charged_is true l.credit (turn full l.group p) (rw (ready_parts l p e).0 at (turn_is full l.group))))
         (λ (e : ready l p ≡ false). rw e refl) (bool_cases (ready l p))
 
-    group_is : (a : Arbiter) → ChosenIs (some p) (by_group a p)
+    group_is : (a : Arbiter) → TurnIs (some p) (by_group a p)
     unfolding by_group
     group_is a = of_turn_is (some p) (with_group a) (turn (burst_of a.word) a.group p) (turn_is (burst_of a.word) a.group)
 
@@ -170,7 +152,7 @@ module _ (P : ℕ → Type 0) where
     pub low : (i : ℕ) → is_set c.low i ≡ true → P i
 
   module _ (low : (i : ℕ) → P i → i < 16) (c : Candidates) (w : Within c) where
-    levels_is : (a : Arbiter) → ChosenIs (some_ready a c) (by_level a c)
+    levels_is : (a : Arbiter) → TurnIs (some_ready a c) (by_level a c)
     unfolding some_ready by_level
     levels_is a =
         let b = burst_of a.word in
@@ -178,13 +160,13 @@ module _ (P : ℕ → Type 0) where
         let m = level_turn b a.medium (is_set c.medium) in
         let l = level_turn b a.low (is_set c.low) in
         rw (← or_assoc (ready a.high (is_set c.high)) (ready a.medium (is_set c.medium)) (ready a.low (is_set c.low)))
-        (or_is _ _ (of_level (λ l. with_levels a l a.medium a.low) h) _
-        (of_level_is _ _ h (level_is low (is_set c.high) w.high b a.high))
-        (or_is _ _ (of_level (λ l. with_levels a a.high l a.low) m) _
-        (of_level_is _ _ m (level_is low (is_set c.medium) w.medium b a.medium))
-        (of_level_is _ _ l (level_is low (is_set c.low) w.low b a.low))))
+        (or_is _ _ (of_turn (λ l. with_levels a l a.medium a.low) h) _
+        (of_turn_is _ _ h (level_is low (is_set c.high) w.high b a.high))
+        (or_is _ _ (of_turn (λ l. with_levels a a.high l a.low) m) _
+        (of_turn_is _ _ m (level_is low (is_set c.medium) w.medium b a.medium))
+        (of_turn_is _ _ l (level_is low (is_set c.low) w.low b a.low))))
 
-    weight_is : (a : Arbiter) → ChosenIs (is_set c.all 0 || some (is_set c.urgent) || some_waits c) (by_weight a c)
+    weight_is : (a : Arbiter) → TurnIs (is_set c.all 0 || some (is_set c.urgent) || some_waits c) (by_weight a c)
     unfolding by_weight
     weight_is a =
         ⊎_elim (λ (e : is_set c.all 0 ≡ true). rw e (refl, w.all 0 e))
@@ -195,29 +177,29 @@ module _ (P : ℕ → Type 0) where
         (rw (refilled_if_due_ready a c) at (levels_is (refilled_if_due a c)))))
         (bool_cases (is_set c.all 0))
 
-    choice_is : (a : Arbiter) → ChosenIs (anyone a c) (choice a c)
+    choice_is : (a : Arbiter) → TurnIs (anyone a c) (choice a c)
     unfolding anyone choice
     choice_is a =
         pick_is a.weighted _ _ (by_weight a c) (by_group a (is_set c.all)) (weight_is a) (group_is low (is_set c.all) w.all a)
 
     -- the queue that is named is a candidate
-    pub named : (a : Arbiter) {i : ℕ} {left : Arbiter} → choice a c ≡ Queue i left → P i
+    pub named : (a : Arbiter) {i : ℕ} {left : Arbiter} → choice a c ≡ Some (i, left) → P i
     named a e = (rw e at (choice_is a)).1
 
     -- nobody is named, and the answer is 12, exactly if there is no candidate
-    pub nobody : (a : Arbiter) → (choice a c ≡ Nobody) ↔ (anyone a c ≡ false)
+    pub nobody : (a : Arbiter) → (choice a c ≡ None) ↔ (anyone a c ≡ false)
     nobody a = (λ e. rw e at (choice_is a), go (choice a c) (choice_is a))
       where
-        go : (x : Chosen) → ChosenIs (anyone a c) x → anyone a c ≡ false → x ≡ Nobody
-        go (Queue i b) h e = absurd (clash h.0 e)
-        go Nobody h e = refl
+        go : (x : Option (ℕ × Arbiter)) → TurnIs (anyone a c) x → anyone a c ≡ false → x ≡ None
+        go (Some (i, b)) h e = absurd (clash h.0 e)
+        go None h e = refl
 
     refusal : (a : Arbiter) → (chosen_answer a (choice a c)).0 ≡ choice_refusal a c
     refusal a = go (choice a c) (choice_is a)
       where
-        go : (x : Chosen) → ChosenIs (anyone a c) x → (chosen_answer a x).0 ≡ choice_refusal a c
-        go (Queue i b) h = rw h.0
-        go Nobody h = rw h
+        go : (x : Option (ℕ × Arbiter)) → TurnIs (anyone a c) x → (chosen_answer a x).0 ≡ choice_refusal a c
+        go (Some (i, b)) h = rw h.0
+        go None h = rw h
 
 -- ---- masks of 16 bits name no other queues than 0 to 15, and then each answer has document 01's number
 
@@ -225,32 +207,32 @@ module _ (m : ℕ) (fits : m < 2 ^ 16) where
   abbrev within : (i : ℕ) → is_set m i ≡ true → i < 16
   within i = set_within 16 m i fits
 
-  next_number : (x : Next) → NextIs (λ i. i < 16) (some (is_set m)) x → (next_answer x).0 ≡ group_refusal (is_set m)
-  next_number (N.Id i) h = rw h.0
-  next_number N.Nobody h = rw h
+  next_number : (x : Option ℕ) → NextIs (λ i. i < 16) (some (is_set m)) x → (next_answer x).0 ≡ group_refusal (is_set m)
+  next_number (Some i) h = rw h.0
+  next_number None h = rw h
 
-  turn_number : (g : Group) (x : Turn) → TurnIs (λ i. i < 16) (some (is_set m)) x → (turn_answer g x).0 ≡ group_refusal (is_set m)
-  turn_number g (T.Served i left) h = rw h.0
-  turn_number g T.Idle h = rw h
+  turn_number : (g : Group) (x : Option (ℕ × Group)) → TurnIs (λ i. i < 16) (some (is_set m)) x → (turn_answer g x).0 ≡ group_refusal (is_set m)
+  turn_number g (Some (i, left)) h = rw h.0
+  turn_number g None h = rw h
 
-  level_number : (l : Level) (x : LevelTurn) → LevelIs (λ i. i < 16) (ready l (is_set m)) x
+  level_number : (l : Level) (x : Option (ℕ × Level)) → TurnIs (λ i. i < 16) (ready l (is_set m)) x
       → (level_answer l x).0 ≡ level_refusal l (is_set m)
-  level_number l (L.Served i left) h = rw h.0
-  level_number l L.Idle h = rw h
+  level_number l (Some (i, left)) h = rw h.0
+  level_number l None h = rw h
 
-  pub next_answered : (h : ℕ) {x : Next} → x ≡ next_after (is_set m) h
+  pub next_answered : (h : ℕ) {x : Option ℕ} → x ≡ next_after (is_set m) h
       → (x ≡ next_after (is_set m) h) × ((next_answer x).0 ≡ group_refusal (is_set m))
   next_answered h e =
       answer_number (λ y. (next_answer y).0) (next_number (next_after (is_set m) h)
       (next_is (λ i. i < 16) (λ i l. l) (is_set m) within h)) e
 
-  pub turn_answered : (full : Remainder) (g : Group) {x : Turn} → x ≡ turn full g (is_set m)
+  pub turn_answered : (full : Remainder) (g : Group) {x : Option (ℕ × Group)} → x ≡ turn full g (is_set m)
       → (x ≡ turn full g (is_set m)) × ((turn_answer g x).0 ≡ group_refusal (is_set m))
   turn_answered full g e =
       answer_number (λ y. (turn_answer g y).0)
       (turn_number g (turn full g (is_set m)) (turn_is (λ i. i < 16) (λ i l. l) (is_set m) within full g)) e
 
-  pub level_answered : (b : Remainder) (l : Level) {x : LevelTurn} → x ≡ level_turn b l (is_set m)
+  pub level_answered : (b : Remainder) (l : Level) {x : Option (ℕ × Level)} → x ≡ level_turn b l (is_set m)
       → (x ≡ level_turn b l (is_set m)) × ((level_answer l x).0 ≡ level_refusal l (is_set m))
   level_answered b l e =
       answer_number (λ y. (level_answer l y).0)
@@ -274,7 +256,7 @@ module _ (c : Candidates) (f : Fits c) where
         low = λ i. set_within 16 c.low i f.low;
       }
 
-  pub answered : (a : Arbiter) {x : Chosen} → x ≡ choice a c → (x ≡ choice a c) × ((chosen_answer a x).0 ≡ choice_refusal a c)
+  pub answered : (a : Arbiter) {x : Option (ℕ × Arbiter)} → x ≡ choice a c → (x ≡ choice a c) × ((chosen_answer a x).0 ≡ choice_refusal a c)
   answered a e = answer_number (λ y. (chosen_answer a y).0) (refusal (λ i. i < 16) (λ i h. h) c fits_within a) e
 
 -- ---- where the masks of the classes are parts of the mask of all queues, the queue that is named is in that mask
@@ -303,5 +285,5 @@ module _ (c : Candidates) (s : Parts c) where
         low = λ i e. in_all i (s.low i e);
       }
 
-  pub named_in_all : (a : Arbiter) {i : ℕ} {left : Arbiter} → choice a c ≡ Queue i left → InAll c i
+  pub named_in_all : (a : Arbiter) {i : ℕ} {left : Arbiter} → choice a c ≡ Some (i, left) → InAll c i
   named_in_all a e = named (InAll c) (λ i h. h.0) c parts_within a e

@@ -1,4 +1,6 @@
 -- What a level's turn costs and how long it lasts, and when the levels refill. Assumes nothing.
+use Rattle.arbiter.specs.declared.Group.{Group}
+use Rattle.std.specs.Prelude.{Option, Some, None}
 use Prim.Native.Nat.{ℕ, ◌+◌, ◌-◌, ◌≤◌, ◌<◌}
 use mathlib.Core.Bool.{Bool, true, false, ◌||◌}
 use mathlib.Core.Logic.{◌⊎◌, inl, inr, ⊎_elim}
@@ -6,15 +8,13 @@ use mathlib.Core.Path.{◌≡◌, refl, sym, ap, ◌∙◌}
 use native.Mathlib.Nat.{min-eq_left, min-eq_right, eq-zero-or-pos}
 use native.Mathlib.Omega.{arith}
 use borrow.Author.Tests.{lt-ltb}
+use Rattle.rules.proofs.Cases.{some_both}
 use Rattle.rules.proofs.Tests.{bool_cases, clash, or-false, or-true}
 use Rattle.bits.specs.Bits.{is_set}
 use Rattle.bits.proofs.Some.{some_found, some_which}
 use Rattle.arbiter.specs.declared.Remainder.{Remainder}
 use Rattle.arbiter.specs.declared.Remainder.TheVariants.{Left, NoLimit}
-use Rattle.arbiter.specs.declared.Turn.{Turn}
-use Rattle.arbiter.specs.declared.Turn.TheVariants as T
 use Rattle.arbiter.specs.declared.Level.{Level}
-use Rattle.arbiter.specs.declared.LevelTurn.TheVariants.{Served, Idle}
 use Rattle.arbiter.specs.declared.Arbiter.{Arbiter}
 use Rattle.arbiter.specs.declared.Candidates.{Candidates}
 use Rattle.arbiter.specs.Turns.{turn}
@@ -52,11 +52,11 @@ module _ (p : ℕ → Bool) where
     not_ready n = ⊎_elim (λ (e : ready l p ≡ true). absurd (n (ready_is e))) (λ (e : ready l p ≡ false). e) (bool_cases (ready l p))
 
     -- a level without a candidate, or without credit, serves nobody
-    pub not_ready_idle : (b : Remainder) → (Ready l p → ⊥) → level_turn b l p ≡ Idle
+    pub not_ready_idle : (b : Remainder) → (Ready l p → ⊥) → level_turn b l p ≡ None
     not_ready_idle b n = sym (level_idle b l p (not_ready n))
 
     -- "serving costs one credit"
-    pub costs_one : (b : Remainder) {i : ℕ} {left : Level} → level_turn b l p ≡ Served i left → left.credit + 1 ≡ l.credit
+    pub costs_one : (b : Remainder) {i : ℕ} {left : Level} → level_turn b l p ≡ Some (i, left) → left.credit + 1 ≡ l.credit
     costs_one b {i} {left} e =
         ⊎_elim
         (λ (y : ready l p ≡ true).
@@ -64,13 +64,13 @@ module _ (p : ℕ → Bool) where
         (λ (n : ready l p ≡ false). let q = level_idle b l p n in let z : ◌≡◌ {A = ℕ} 0 1 = cc in absurd (omega arith))
         (bool_cases (ready l p))
       where
-        go : (x : Turn) → 0 < l.credit → charged l.credit x ≡ Served i left → left.credit + 1 ≡ l.credit
-        go (T.Served k g) h q = let s : l.credit - 1 ≡ left.credit = cc in omega arith
-        go T.Idle h q = let z : ◌≡◌ {A = ℕ} 0 1 = cc in absurd (omega arith)
+        go : (x : Option (ℕ × Group)) → 0 < l.credit → charged l.credit x ≡ Some (i, left) → left.credit + 1 ≡ l.credit
+        go (Some (k, g)) h q = let s = ap (λ (x : Level). x.credit) (some_both q).1 in omega arith
+        go None h q = let z : ◌≡◌ {A = ℕ} 0 1 = cc in absurd (omega arith)
 
   -- the holder goes on at the cost of one credit
   pub level_goes_on : (b : Remainder) (h n c : ℕ) → h < 16 → p h ≡ true
-      → level_turn b (level h (Left (n + 1)) (c + 1)) p ≡ Served h (level h (Left n) c)
+      → level_turn b (level h (Left (n + 1)) (c + 1)) p ≡ Some (h, (level h (Left n) c))
   level_goes_on b h n c low e =
       let l = level h (Left (n + 1)) (c + 1) in
       let q : c + 1 - 1 ≡ c = omega arith in
@@ -81,7 +81,7 @@ module _ (p : ℕ → Bool) where
   -- comes next, is served out of it; the burst is k + 1 or without limit, the credit c + 1
   module _ (h : ℕ) (r : Remainder) (c : ℕ) (low : h < 16) (o : Over (group h r) p) {i : ℕ} (n : ComesNext p h i) where
     by_full : (b : Remainder) (k : ℕ) → level_full b (c + 1) ≡ Left (k + 1)
-        → level_turn b (level h r (c + 1)) p ≡ Served i (level i (Left k) c)
+        → level_turn b (level h r (c + 1)) p ≡ Some (i, (level i (Left k) c))
     by_full b k e =
         let l = level h r (c + 1) in
         let q : c + 1 - 1 ≡ c = omega arith in
@@ -91,13 +91,13 @@ module _ (p : ℕ → Bool) where
         below : i < 16
         below = ⊎_elim (λ u. u.1) (λ u. omega (arith, u.0)) n.1
 
-    pub by_burst : (k : ℕ) → k ≤ c → level_turn (Left (k + 1)) (level h r (c + 1)) p ≡ Served i (level i (Left k) c)
+    pub by_burst : (k : ℕ) → k ≤ c → level_turn (Left (k + 1)) (level h r (c + 1)) p ≡ Some (i, (level i (Left k) c))
     by_burst k l = by_full (Left (k + 1)) k (ap Left (min-eq_left (omega arith)))
 
-    pub by_credit : (k : ℕ) → c ≤ k → level_turn (Left (k + 1)) (level h r (c + 1)) p ≡ Served i (level i (Left c) c)
+    pub by_credit : (k : ℕ) → c ≤ k → level_turn (Left (k + 1)) (level h r (c + 1)) p ≡ Some (i, (level i (Left c) c))
     by_credit k l = by_full (Left (k + 1)) c (ap Left (min-eq_right (omega arith)))
 
-    pub by_credit_without_limit : level_turn NoLimit (level h r (c + 1)) p ≡ Served i (level i (Left c) c)
+    pub by_credit_without_limit : level_turn NoLimit (level h r (c + 1)) p ≡ Some (i, (level i (Left c) c))
     by_credit_without_limit = by_full NoLimit c refl
 
 -- ---- the refill

@@ -1,4 +1,5 @@
 -- Laws of a level's turn and of the refill. Assumes nothing.
+use Rattle.std.specs.Prelude.{None}
 use Prim.Native.Nat.{ℕ, ◌^◌, ◌<◌}
 use mathlib.Core.Bool.{Bool, true, false, ◌&&◌, not}
 use mathlib.Core.Logic.{⊎_elim}
@@ -12,7 +13,6 @@ use Rattle.bits.specs.Bits.{is_set, some_below}
 use Rattle.bits.proofs.First.{first_trailing, first_found}
 use Rattle.arbiter.specs.declared.Remainder.{Remainder}
 use Rattle.arbiter.specs.declared.Level.{Level}
-use Rattle.arbiter.specs.declared.LevelTurn.TheVariants.{Idle}
 use Rattle.arbiter.specs.declared.Arbiter.{Arbiter}
 use Rattle.arbiter.specs.declared.Candidates.{Candidates}
 use Rattle.arbiter.specs.Turns.{turn}
@@ -30,7 +30,7 @@ unfolding ready
 ready_parts l p e = let w = and_true (some p) _ e in (w.0, ltb-true _ _ w.1)
 
 module _ (b : Remainder) (l : Level) (p : ℕ → Bool) where
-  pub level_idle : ready l p ≡ false → Idle ≡ level_turn b l p
+  pub level_idle : ready l p ≡ false → None ≡ level_turn b l p
   unfolding level_turn
   level_idle e = rw e
 

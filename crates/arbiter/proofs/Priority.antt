@@ -1,5 +1,6 @@
 -- Who goes before whom, and what is left as it was: under mechanism 0 one group of all queues; under mechanism 1 queue 0, then the urgent
 -- group, then the first level with a candidate and credit. Assumes nothing.
+use Rattle.std.specs.Prelude.{Option, Some, None}
 use Prim.Native.Nat.{ℕ, ◌+◌, ◌^◌, ◌<◌}
 use mathlib.Core.Bool.{true, false}
 use mathlib.Core.Path.{◌≡◌, refl, ◌∙◌}
@@ -9,25 +10,20 @@ use Rattle.bits.proofs.Bits.{set_within}
 use Rattle.arbiter.specs.declared.Remainder.{Remainder}
 use Rattle.arbiter.specs.declared.Group.{Group}
 use Rattle.arbiter.specs.declared.Level.{Level}
-use Rattle.arbiter.specs.declared.Turn.{Turn}
-use Rattle.arbiter.specs.declared.Turn.TheVariants as T
-use Rattle.arbiter.specs.declared.LevelTurn.{LevelTurn}
-use Rattle.arbiter.specs.declared.LevelTurn.TheVariants as L
 use Rattle.arbiter.specs.declared.Arbiter.{Arbiter}
 use Rattle.arbiter.specs.declared.Candidates.{Candidates}
-use Rattle.arbiter.specs.declared.Chosen.TheVariants.{Queue}
 use Rattle.arbiter.specs.Word.{burst_of}
 use Rattle.arbiter.specs.Turns.{turn}
 use Rattle.arbiter.specs.Arbiter.{with_group, with_levels, some, ready, level_turn, refilled_if_due, by_group, by_level, by_weight, choice}
 use Rattle.arbiter.proofs.Credits.{Has, Ready, is_ready, has_some, has_none, not_ready_idle, costs_one}
-use Rattle.arbiter.proofs.Choice.{Fits, TurnIs, LevelIs, turn_is, level_is}
+use Rattle.arbiter.proofs.Choice.{Fits, TurnIs, turn_is, level_is}
 
 -- ---- mechanism 0
 
 module _ (a : Arbiter) (c : Candidates) (e : a.weighted ≡ false) where
   -- "all SQs form one group"
-  pub one_group : {i : ℕ} {g : Group} → turn (burst_of a.word) a.group (is_set c.all) ≡ T.Served i g
-      → choice a c ≡ Queue i (with_group a g)
+  pub one_group : {i : ℕ} {g : Group} → turn (burst_of a.word) a.group (is_set c.all) ≡ Some (i, g)
+      → choice a c ≡ Some (i, (with_group a g))
   unfolding choice by_group
   one_group t = rw (e, t)
 
@@ -44,38 +40,38 @@ module _ (m : ℕ) (h : m < 2 ^ 16) where
   Candidate i = (i < 16) × (is_set m i ≡ true)
 
   group_serves : (full : Remainder) (g : Group) → Has (is_set m)
-      → (i : ℕ) × (left : Group) × (is_set m i ≡ true) × (turn full g (is_set m) ≡ T.Served i left)
+      → (i : ℕ) × (left : Group) × (is_set m i ≡ true) × (turn full g (is_set m) ≡ Some (i, left))
   group_serves full g s =
       go (turn full g (is_set m)) refl (turn_is Candidate (λ i w. w.0) (is_set m) (λ i y. (set_within 16 m i h y, y)) full g)
     where
-      go : (x : Turn) → turn full g (is_set m) ≡ x → TurnIs Candidate (some (is_set m)) x
-          → (i : ℕ) × (left : Group) × (is_set m i ≡ true) × (turn full g (is_set m) ≡ T.Served i left)
-      go (T.Served i left) q w = (i, left, w.1.1, q)
-      go T.Idle q w = absurd (clash (has_some (is_set m) s) w)
+      go : (x : Option (ℕ × Group)) → turn full g (is_set m) ≡ x → TurnIs Candidate (some (is_set m)) x
+          → (i : ℕ) × (left : Group) × (is_set m i ≡ true) × (turn full g (is_set m) ≡ Some (i, left))
+      go (Some (i, left)) q w = (i, left, w.1.1, q)
+      go None q w = absurd (clash (has_some (is_set m) s) w)
 
-  group_idle : (full : Remainder) (g : Group) → (Has (is_set m) → ⊥) → turn full g (is_set m) ≡ T.Idle
+  group_idle : (full : Remainder) (g : Group) → (Has (is_set m) → ⊥) → turn full g (is_set m) ≡ None
   group_idle full g n =
       go (turn full g (is_set m)) (turn_is Candidate (λ i w. w.0) (is_set m) (λ i y. (set_within 16 m i h y, y)) full g)
     where
-      go : (x : Turn) → TurnIs Candidate (some (is_set m)) x → x ≡ T.Idle
-      go (T.Served i left) w = absurd (clash w.0 (has_none (is_set m) n))
-      go T.Idle w = refl
+      go : (x : Option (ℕ × Group)) → TurnIs Candidate (some (is_set m)) x → x ≡ None
+      go (Some (i, left)) w = absurd (clash w.0 (has_none (is_set m) n))
+      go None w = refl
 
   level_serves : (b : Remainder) (l : Level) → Ready l (is_set m)
-      → (i : ℕ) × (left : Level) × (is_set m i ≡ true) × (level_turn b l (is_set m) ≡ L.Served i left) × (left.credit + 1 ≡ l.credit)
+      → (i : ℕ) × (left : Level) × (is_set m i ≡ true) × (level_turn b l (is_set m) ≡ Some (i, left)) × (left.credit + 1 ≡ l.credit)
   level_serves b l r =
       go (level_turn b l (is_set m)) refl (level_is Candidate (λ i w. w.0) (is_set m) (λ i y. (set_within 16 m i h y, y)) b l)
     where
-      go : (x : LevelTurn) → level_turn b l (is_set m) ≡ x → LevelIs Candidate (ready l (is_set m)) x
-          → (i : ℕ) × (left : Level) × (is_set m i ≡ true) × (level_turn b l (is_set m) ≡ L.Served i left) × (left.credit + 1 ≡ l.credit)
-      go (L.Served i left) q w = (i, left, w.1.1, q, costs_one (is_set m) l b q)
-      go L.Idle q w = absurd (clash (is_ready (is_set m) l r) w)
+      go : (x : Option (ℕ × Level)) → level_turn b l (is_set m) ≡ x → TurnIs Candidate (ready l (is_set m)) x
+          → (i : ℕ) × (left : Level) × (is_set m i ≡ true) × (level_turn b l (is_set m) ≡ Some (i, left)) × (left.credit + 1 ≡ l.credit)
+      go (Some (i, left)) q w = (i, left, w.1.1, q, costs_one (is_set m) l b q)
+      go None q w = absurd (clash (is_ready (is_set m) l r) w)
 
 -- ---- mechanism 1
 
 module _ (a : Arbiter) (c : Candidates) (f : Fits c) (e : a.weighted ≡ true) where
   -- "SQ 0 first, without turns"
-  pub admin_first : is_set c.all 0 ≡ true → choice a c ≡ Queue 0 a
+  pub admin_first : is_set c.all 0 ≡ true → choice a c ≡ Some (0, a)
   unfolding choice by_weight
   admin_first y = rw (e, y)
 
@@ -83,8 +79,8 @@ module _ (a : Arbiter) (c : Candidates) (f : Fits c) (e : a.weighted ≡ true) w
     -- "then the urgent group (class 0)": an urgent queue is served by a turn of the group, and no level is touched
     pub urgent_next : Has (is_set c.urgent)
         → (i : ℕ) × (g : Group) × (is_set c.urgent i ≡ true)
-        × (turn (burst_of a.word) a.group (is_set c.urgent) ≡ T.Served i g)
-        × (choice a c ≡ Queue i (with_group a g))
+        × (turn (burst_of a.word) a.group (is_set c.urgent) ≡ Some (i, g))
+        × (choice a c ≡ Some (i, (with_group a g)))
     unfolding choice by_weight by_group
     urgent_next s =
         let (i, g, y, t) = group_serves c.urgent f.urgent (burst_of a.word) a.group s in (i, g, y, t, rw (e, n, t))
@@ -103,9 +99,9 @@ module _ (a : Arbiter) (c : Candidates) (f : Fits c) (e : a.weighted ≡ true) w
       abbrev pub Serves : ℕ → Level → (Level → Arbiter) → Type 0
       Serves m l back =
           (i : ℕ) × (left : Level) × (is_set m i ≡ true)
-          × (level_turn (burst_of filled.word) l (is_set m) ≡ L.Served i left)
+          × (level_turn (burst_of filled.word) l (is_set m) ≡ Some (i, left))
           × (left.credit + 1 ≡ l.credit)
-          × (choice a c ≡ Queue i (back left))
+          × (choice a c ≡ Some (i, (back left)))
 
       pub high_first : Ready filled.high (is_set c.high)
           → Serves c.high filled.high (λ l. with_levels filled l filled.medium filled.low)
@@ -115,7 +111,7 @@ module _ (a : Arbiter) (c : Candidates) (f : Fits c) (e : a.weighted ≡ true) w
           (i, l, y, t, k, by_level_lem ∙ rw t)
 
       module _ (h : Ready filled.high (is_set c.high) → ⊥) where
-        high_idle : level_turn (burst_of filled.word) filled.high (is_set c.high) ≡ L.Idle
+        high_idle : level_turn (burst_of filled.word) filled.high (is_set c.high) ≡ None
         high_idle = not_ready_idle (is_set c.high) filled.high (burst_of filled.word) h
 
         pub medium_next : Ready filled.medium (is_set c.medium)

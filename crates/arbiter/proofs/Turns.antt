@@ -1,4 +1,5 @@
 -- Laws of the turn rule. Assumes nothing.
+use Rattle.std.specs.Prelude.{Some, None}
 use Prim.Native.Nat.{ℕ, ◌+◌, ◌-◌, ◌*◌, ◌/◌, ◌%◌, ◌^◌, ◌≤◌, ◌<◌}
 use mathlib.Core.Bool.{Bool, true, false, ◌&&◌}
 use mathlib.Core.Logic.{⊎_elim}
@@ -13,7 +14,6 @@ use Rattle.bits.proofs.Bits.{set_high, set_shr, set_above, set_under}
 use Rattle.bits.proofs.First.{first_is, first_none, first_hit, first_below, first_found, first_trailing}
 use Rattle.arbiter.specs.declared.Remainder.{Remainder}
 use Rattle.arbiter.specs.declared.Group.{Group}
-use Rattle.arbiter.specs.declared.Next.TheVariants.{Id, Nobody}
 use Rattle.arbiter.specs.Turns.{next_after, above_zero, served, takes, turn}
 
 module _ (p : ℕ → Bool) (h : ℕ) where
@@ -22,17 +22,17 @@ module _ (p : ℕ → Bool) (h : ℕ) where
   NoneNearer d = (j : ℕ) → 1 ≤ j → j < d → p ((h + j) % 16) ≡ false
 
   -- the next candidate is d steps on: it is one, and none nearer is
-  pub next_is : (d : ℕ) → 1 ≤ d → d ≤ 16 → p ((h + d) % 16) ≡ true → NoneNearer d → Id ((h + d) % 16) ≡ next_after p h
+  pub next_is : (d : ℕ) → 1 ≤ d → d ≤ 16 → p ((h + d) % 16) ≡ true → NoneNearer d → Some ((h + d) % 16) ≡ next_after p h
   unfolding next_after
   next_is d l u y n = rw (first_is (λ d. p ((h + d) % 16)) 1 16 d l (omega arith) y n, lt-ltb d 17 (omega arith))
 
-  pub next_none : NoneNearer 17 → Nobody ≡ next_after p h
+  pub next_none : NoneNearer 17 → None ≡ next_after p h
   unfolding next_after
   next_none n = rw (first_none (λ d. p ((h + d) % 16)) 1 16 (λ j a b. n j a (omega arith)))
 
 -- ---- candidates in a number of 16 bits
 
-pub next_zero : (m h : ℕ) → m ≡ 0 → Nobody ≡ next_after (is_set m) h
+pub next_zero : (m h : ℕ) → m ≡ 0 → None ≡ next_after (is_set m) h
 next_zero m h e =
     next_none (is_set m) h (λ j a b. ap (λ (x : ℕ). is_set x ((h + j) % 16)) e ∙ set_high 0 0 ((h + j) % 16) (lit< tt) (omega arith))
 
@@ -70,12 +70,12 @@ module _ (m h : ℕ) (f : m < 2 ^ 16) where
       (λ (a : 16 ≤ passed). absurd (clash y (first_below (is_set in_turn) 0 32 d (omega arith) (omega arith)))) (lt_or_ge passed 16)
 
   -- the way without a loop: the steps to the next candidate are the zeros before its bit, and one
-  pub next_found : 0 < m → Id ((h % 16 + 1 + count_trailing_zeros 32 in_turn) % 16) ≡ next_after (is_set m) h
+  pub next_found : 0 < m → Some ((h % 16 + 1 + count_trailing_zeros 32 in_turn) % 16) ≡ next_after (is_set m) h
   next_found p =
       let l = few_passed p in
       let e : (h % 16 + 1 + passed) % 16 ≡ (h + (passed + 1)) % 16 = omega arith in
-      ap (λ (t : ℕ). Id ((h % 16 + 1 + t) % 16)) (sym (first_trailing 32 in_turn))
-      ∙ ap Id e
+      ap (λ (t : ℕ). Some ((h % 16 + 1 + t) % 16)) (sym (first_trailing 32 in_turn))
+      ∙ ap Some e
       ∙ next_is (is_set m) h (passed + 1) (omega arith) (omega arith)
       (sym (in_turn_lem passed l) ∙ first_hit (is_set in_turn) 0 32 (omega arith))
       (λ j a b.
@@ -87,7 +87,7 @@ module _ (m h : ℕ) (f : m < 2 ^ 16) where
 
 -- the rule's two cases, x and y being whether the holder is a candidate and whether its remainder is above 0
 module _ (full : Remainder) (g : Group) (p : ℕ → Bool) {x y : Bool} (e : x ≡ p g.holder) (f : y ≡ above_zero g.remainder) where
-  pub turn_held : (x && y) ≡ true → served g.holder g.remainder ≡ turn full g p
+  pub turn_held : (x && y) ≡ true → Some (served g.holder g.remainder) ≡ turn full g p
   unfolding turn
   turn_held t = rw (← e, ← f, t)
 

@@ -11,7 +11,7 @@ ghost use Rattle.arbiter.specs.Arbiter.{some, level_full, ready, level_turn, fre
 ghost use Rattle.arbiter.specs.Arbiter.{by_group, by_level, by_weight, choice, next_answer, turn_answer, level_answer};
 ghost use Rattle.arbiter.specs.Arbiter.{group_refusal, level_refusal, chosen_answer, choice_refusal};
 
-// What is left of a turn.
+// What is left of a turn. An enum of its own, since `None` would read as nothing left, where it means no limit.
 #[derive(Clone, Copy)]
 pub enum Remainder {
     Left(u32),
@@ -52,33 +52,6 @@ pub struct Candidates {
     pub high: u16,
     pub medium: u16,
     pub low: u16,
-}
-
-// The queue that is served, with the arbiter that is left. Where it is nobody, the arbiter stays as it was.
-#[derive(Clone, Copy)]
-pub enum Chosen {
-    Queue(u32, Arbiter),
-    Nobody,
-}
-
-// The queue that takes the turn.
-#[derive(Clone, Copy)]
-enum Next {
-    Id(u32),
-    Nobody,
-}
-
-// What a turn of a group, or of a level, comes to: the queue that is served, with what is left of the group or level.
-#[derive(Clone, Copy)]
-enum Turn {
-    Served(u32, Group),
-    Idle,
-}
-
-#[derive(Clone, Copy)]
-enum LevelTurn {
-    Served(u32, Level),
-    Idle,
 }
 
 fn is_candidate(mask: u16, id: u32) -> bool
@@ -141,25 +114,24 @@ fn lower(r: Remainder) -> Remainder
 
 // The next candidate after the holder, wrapping, the holder last. The mask stands twice in a row; from the bit after the holder's on, the
 // candidates come in the order of their turns, and the trailing zeros are the ids that are passed over.
-fn next_turn(mask: u16, holder: u32) -> Next
+fn next_turn(mask: u16, holder: u32) -> Option<u32>
     ensures value { result ≡ next_after (is_set mask) holder }
     ensures refusal { (next_answer result).0 ≡ group_refusal (is_set mask) }
 {
     if mask == 0 {
-        return Next::Nobody;
+        return None;
     }
     let after = holder % 16 + 1;
     let twice = (mask as u32) * 65537;
     let passed = u32::trailing_zeros(twice >> after);
-    Next::Id((after + passed) % 16)
+    Some((after + passed) % 16)
 }
 
 // Queue `id` is served out of the remainder `r`, and holds the turn.
-fn serve(id: u32, r: Remainder) -> Turn
-    ensures value { result ≡ served id r }
-    ensures refusal { (g : Group) → (turn_answer g result).0 ≡ 0 }
+fn serve(id: u32, r: Remainder) -> (u32, Group)
+    ensures { result ≡ served id r }
 {
-    Turn::Served(
+    (
         id,
         Group {
             holder: id,
@@ -170,19 +142,17 @@ fn serve(id: u32, r: Remainder) -> Turn
 
 impl Group {
     // The holder goes on, or the next candidate takes the turn with the remainder `full`.
-    fn turn(self, full: Remainder, mask: u16) -> Turn
+    fn turn(self, full: Remainder, mask: u16) -> Option<(u32, Group)>
         ensures value { result ≡ turn full self (is_set mask) }
         ensures refusal { (turn_answer self result).0 ≡ group_refusal (is_set mask) }
     {
         let holder = self.holder;
         let left = self.remainder;
         if is_candidate(mask, holder) & above_zero(left) {
-            return serve(holder, left);
+            return Some(serve(holder, left));
         }
-        let Next::Id(id) = next_turn(mask, holder) else {
-            return Turn::Idle;
-        };
-        serve(id, full)
+        let id = next_turn(mask, holder)?;
+        Some(serve(id, full))
     }
 }
 
@@ -212,25 +182,23 @@ impl Level {
     }
 
     // A turn at the burst `b`, which costs one credit.
-    fn turn(self, b: Remainder, mask: u16) -> LevelTurn
+    fn turn(self, b: Remainder, mask: u16) -> Option<(u32, Level)>
         ensures value { result ≡ level_turn b self (is_set mask) }
         ensures refusal { (level_answer self result).0 ≡ level_refusal self (is_set mask) }
     {
         if !self.is_ready(mask) {
-            return LevelTurn::Idle;
+            return None;
         }
         let credit = self.credit;
         let group = self.group;
-        let Turn::Served(id, next) = group.turn(level_full(b, credit), mask) else {
-            return LevelTurn::Idle;
-        };
-        LevelTurn::Served(
+        let (id, next) = group.turn(level_full(b, credit), mask)?;
+        Some((
             id,
             Level {
                 group: next,
                 credit: credit - 1,
             },
-        )
+        ))
     }
 }
 
@@ -301,55 +269,52 @@ impl Arbiter {
     }
 
     // A turn of the one group: all queues, or the urgent ones.
-    fn choose_group(mut self, mask: u16) -> Chosen
+    fn choose_group(mut self, mask: u16) -> Option<(u32, Arbiter)>
         ensures { result ≡ by_group self (is_set mask) }
     {
         let group = self.group;
-        let Turn::Served(id, next) = group.turn(burst(self.word), mask) else {
-            return Chosen::Nobody;
-        };
+        let (id, next) = group.turn(burst(self.word), mask)?;
         self.group = next;
-        Chosen::Queue(id, self)
+        Some((id, self))
     }
 
     // A turn of the first level that is ready.
-    fn choose_level(mut self, c: Candidates) -> Chosen
+    fn choose_level(mut self, c: Candidates) -> Option<(u32, Arbiter)>
         ensures { result ≡ by_level self c }
     {
         let high = self.high;
-        if let LevelTurn::Served(id, next) = high.turn(burst(self.word), c.high) {
+        if let Some((id, next)) = high.turn(burst(self.word), c.high) {
             self.high = next;
-            return Chosen::Queue(id, self);
+            return Some((id, self));
         }
         let medium = self.medium;
-        if let LevelTurn::Served(id, next) = medium.turn(burst(self.word), c.medium) {
+        if let Some((id, next)) = medium.turn(burst(self.word), c.medium) {
             self.medium = next;
-            return Chosen::Queue(id, self);
+            return Some((id, self));
         }
         let low = self.low;
-        if let LevelTurn::Served(id, next) = low.turn(burst(self.word), c.low) {
+        if let Some((id, next)) = low.turn(burst(self.word), c.low) {
             self.low = next;
-            return Chosen::Queue(id, self);
+            return Some((id, self));
         }
-        Chosen::Nobody
+        None
     }
 
     // Queue 0 first, then the urgent group, then the levels.
-    fn choose_weighted(self, c: Candidates) -> Chosen
+    fn choose_weighted(self, c: Candidates) -> Option<(u32, Arbiter)>
         ensures { result ≡ by_weight self c }
     {
         if is_candidate(c.all, 0) {
-            return Chosen::Queue(0, self);
+            return Some((0, self));
         }
-        let urgent = self.choose_group(c.urgent);
-        if let Chosen::Queue(_, _) = urgent {
-            return urgent;
+        if let Some(urgent) = self.choose_group(c.urgent) {
+            return Some(urgent);
         }
         self.refilled_if_due(c).choose_level(c)
     }
 
-    // The queue to serve next.
-    pub fn choose(self, c: Candidates) -> Chosen
+    // The queue to serve next, with the arbiter that is left. Where it is nobody, the arbiter stays as it was.
+    pub fn choose(self, c: Candidates) -> Option<(u32, Arbiter)>
         ensures value { result ≡ choice self c }
         ensures refusal { (chosen_answer self result).0 ≡ choice_refusal self c }
     {

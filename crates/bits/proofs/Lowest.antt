@@ -1,4 +1,5 @@
 -- Which tags are taken, and when too few are free, said of the tags that are free and without counting. Assumes nothing.
+use Rattle.std.specs.Prelude.{Some, None}
 use Prim.Native.Nat.{ℕ, ◌+◌, ◌^◌, ◌≤◌, ◌<◌}
 use mathlib.Core.Bool.{true, false}
 use mathlib.Core.Logic.{⊎_elim, ◌↔◌}
@@ -6,9 +7,8 @@ use mathlib.Core.Path.{◌≡◌, sym, ap, ◌∙◌}
 use native.Mathlib.Nat.{eq-zero-or-pos}
 use native.Mathlib.Omega.{arith}
 use lib.Dec.{lit<}
+use Rattle.rules.proofs.Cases.{some_both}
 use Rattle.rules.proofs.Tests.{lt_or_ge, same_or_not, clash}
-use Rattle.bits.specs.declared.TakenOne.TheVariants.{Tag, NoneFree}
-use Rattle.bits.specs.declared.TakenTwo.TheVariants.{Tags, TooFew}
 use Rattle.bits.specs.Bits.{is_set}
 use Rattle.bits.specs.Tags.{free_count, lowest, without, taken_one, taken_two, given_back}
 use Rattle.bits.proofs.Bits.{set_high, sub_fits, sub_other, ones_sub}
@@ -31,26 +31,27 @@ module _ (m : ℕ) (h : m < 2 ^ 64) where
   lowest_is t (l, y, n) = first_is (is_set m) 0 64 t (omega arith) (omega arith) y (λ j a b. n j b)
 
   -- "the tag is the lowest that is free", and the mask left is without it
-  pub one_exact : (t left : ℕ) → (taken_one m ≡ Tag t left) ↔ (Lowest t × (left + 2 ^ t ≡ m))
+  pub one_exact : (t left : ℕ) → (taken_one m ≡ Some (t, left)) ↔ (Lowest t × (left + 2 ^ t ≡ m))
   one_exact t left = (to, back)
     where
-      to : taken_one m ≡ Tag t left → Lowest t × (left + 2 ^ t ≡ m)
+      to : taken_one m ≡ Some (t, left) → Lowest t × (left + 2 ^ t ≡ m)
       to e =
           let o = one_taken_lem m h e in
           let q = one_some m h (some_free m t o.free) in
-          let et : lowest m ≡ t = cc in
-          let el : rest m ≡ left = cc in
+          let is = some_both (q ∙ e) in
+          let et = is.0 in
+          let el = is.1 in
           let f = sub_fits t m o.free in
           let g : without m t ≡ left = ap (without m) (sym et) ∙ el in ((o.low, o.free, o.lower), omega arith)
 
-      back : Lowest t × (left + 2 ^ t ≡ m) → taken_one m ≡ Tag t left
+      back : Lowest t × (left + 2 ^ t ≡ m) → taken_one m ≡ Some (t, left)
       back (w, q) =
           let e = lowest_is t w in
           let l : without m t ≡ left = omega arith in
-          sym (one_some m h (some_free m t w.1)) ∙ ap (λ (k : ℕ). Tag k (without m k)) e ∙ ap (Tag t) l
+          sym (one_some m h (some_free m t w.1)) ∙ ap (λ (k : ℕ). Some (k, (without m k))) e ∙ ap (λ (k : ℕ). Some (t, k)) l
 
   -- "too few free tags" for one command: none is free
-  pub none_exact : (taken_one m ≡ NoneFree) ↔ ((t : ℕ) → t < 64 → is_set m t ≡ false)
+  pub none_exact : (taken_one m ≡ None) ↔ ((t : ℕ) → t < 64 → is_set m t ≡ false)
   none_exact = (
     λ e t l. ap (λ (x : ℕ). is_set x t) ((none_free m h).0 e) ∙ set_high 0 0 t (lit< tt) (omega arith),
     λ n. ⊎_elim (λ (z : m ≡ 0). (none_free m h).1 z)
@@ -71,23 +72,24 @@ module _ (m : ℕ) (h : m < 2 ^ 64) where
       (t < u) × (u < 64) × (is_set m t ≡ true) × (is_set m u ≡ true) × ((j : ℕ) → j < u → (j ≡ t → ⊥) → is_set m j ≡ false)
 
   -- "A pair takes the two lowest free, the first half the lower", and the mask left is without them
-  pub two_exact : (t u left : ℕ) → (taken_two m ≡ Tags t u left) ↔ (TwoLowest t u × (left + 2 ^ t + 2 ^ u ≡ m))
+  pub two_exact : (t u left : ℕ) → (taken_two m ≡ Some (t, u, left)) ↔ (TwoLowest t u × (left + 2 ^ t + 2 ^ u ≡ m))
   two_exact t u left = (to, back)
     where
-      to : taken_two m ≡ Tags t u left → TwoLowest t u × (left + 2 ^ t + 2 ^ u ≡ m)
+      to : taken_two m ≡ Some (t, u, left) → TwoLowest t u × (left + 2 ^ t + 2 ^ u ≡ m)
       to e =
           let w = two_taken m h e in
           let q = two_some m h (two_free t u w.rising w.first.free w.both) in
-          let et : lowest m ≡ t = cc in
-          let eu : lowest (rest m) ≡ u = cc in
-          let el : rest (rest m) ≡ left = cc in
+          let is : ◌≡◌ {A = ℕ × ℕ × ℕ} (lowest m, lowest (rest m), rest (rest m)) (t, u, left) = cc in
+          let et = ap (λ (x : ℕ × ℕ × ℕ). x.0) is in
+          let eu = ap (λ (x : ℕ × ℕ × ℕ). x.1) is in
+          let el = ap (λ (x : ℕ × ℕ × ℕ). x.2) is in
           let f = sub_fits t m w.first.free in
           let g = sub_fits u (without m t) w.second.free in
           let r : without (without m t) u ≡ left =
           ap (λ (k : ℕ). without (without m t) k) (sym eu) ∙ ap (λ (k : ℕ). without (without m k) (lowest (rest m))) (sym et) ∙ el in
           ((w.rising, w.second.low, w.first.free, w.both, λ j a d. sym (w.first.others j d) ∙ w.second.lower j a), omega arith)
 
-      back : TwoLowest t u × (left + 2 ^ t + 2 ^ u ≡ m) → taken_two m ≡ Tags t u left
+      back : TwoLowest t u × (left + 2 ^ t + 2 ^ u ≡ m) → taken_two m ≡ Some (t, u, left)
       back ((l, k, y, z, n), q) =
           let c = two_free t u l y z in
           let w = lowest_two m h c in
@@ -101,7 +103,7 @@ module _ (m : ℕ) (h : m < 2 ^ 64) where
           sym (two_some m h c) ∙ rw (et, eu, left)
 
   -- "too few free tags" for a pair: no two are free
-  pub few_exact : (taken_two m ≡ TooFew) ↔ ((t u : ℕ) → t < u → u < 64 → is_set m t ≡ true → is_set m u ≡ true → ⊥)
+  pub few_exact : (taken_two m ≡ None) ↔ ((t u : ℕ) → t < u → u < 64 → is_set m t ≡ true → is_set m u ≡ true → ⊥)
   few_exact = (
     λ e t u l k y z. let f = (too_few m h).0 e in omega (arith, f, two_free t u l y z),
     λ n. ⊎_elim (λ (l : free_count m < 2). (too_few m h).1 l)
@@ -110,6 +112,6 @@ module _ (m : ℕ) (h : m < 2 ^ 64) where
   )
 
   -- "a freed tag is used again": given back, it is the lowest that is free
-  pub used_again : {t left : ℕ} → taken_one m ≡ Tag t left → taken_one (given_back left t) ≡ Tag t left
+  pub used_again : {t left : ℕ} → taken_one m ≡ Some (t, left) → taken_one (given_back left t) ≡ Some (t, left)
   used_again {t} {left} e =
       let o = one_taken_lem m h e in ap taken_one (sym (back_taken left t o.low o.gone) ∙ ((one_exact t left).0 e).1) ∙ e

@@ -1,4 +1,5 @@
 -- Laws of the mask of free tags. Assumes nothing.
+use Rattle.std.specs.Prelude.{Option, Some, None}
 use Prim.Native.Nat.{ℕ, ◌+◌, ◌-◌, ◌^◌, ◌≤◌, ◌<◌}
 use mathlib.Core.Bool.{true, false}
 use mathlib.Core.Logic.{◌⊎◌, inl, inr, ⊎_elim, ◌↔◌}
@@ -7,12 +8,9 @@ use native.Mathlib.Nat.{eq-zero-or-pos}
 use native.Mathlib.Omega.{arith}
 use lib.Count.{ones, trailing_of_zero}
 use borrow.Author.Tests.{lt-ltb, le-ltb, le-leb, lt-leb}
+use Rattle.rules.proofs.Cases.{some_both}
 use Rattle.rules.proofs.Tests.{bool_cases, lt_or_ge, clash}
 use Rattle.rules.proofs.Tables.{answer_number}
-use Rattle.bits.specs.declared.TakenOne.{TakenOne}
-use Rattle.bits.specs.declared.TakenOne.TheVariants.{Tag, NoneFree}
-use Rattle.bits.specs.declared.TakenTwo.{TakenTwo}
-use Rattle.bits.specs.declared.TakenTwo.TheVariants.{Tags, TooFew}
 use Rattle.bits.specs.Bits.{is_set}
 use Rattle.bits.specs.Tags.{free_count, lowest, lowest_above, without, taken_one, taken_two, given_back, one_answer, two_answer, tag_refusal}
 use Rattle.bits.proofs.Bits.{add_same, add_other, add_fits, sub_same, sub_other, ones_sub}
@@ -50,27 +48,28 @@ module _ (m : ℕ) (h : m < 2 ^ 64) where
         fewer = omega (arith, count_ones 64 (rest m) f, count_ones 64 m h, ones_sub (lowest m) m s);
       }
 
-  pub one_some : 0 < m → Tag (lowest m) (rest m) ≡ taken_one m
+  pub one_some : 0 < m → Some ((lowest m), (rest m)) ≡ taken_one m
   unfolding taken_one
   one_some p = rw (lt-ltb (lowest m) 64 (lowest_taken p).low)
 
-  pub one_none : m ≡ 0 → NoneFree ≡ taken_one m
+  pub one_none : m ≡ 0 → None ≡ taken_one m
   unfolding taken_one
   one_none e = rw (e, first_trailing 64 0 ∙ trailing_of_zero 64)
 
-  pub one_taken_lem : {t left : ℕ} → taken_one m ≡ Tag t left → OneTaken m t left
+  pub one_taken_lem : {t left : ℕ} → taken_one m ≡ Some (t, left) → OneTaken m t left
   one_taken_lem {t} {left} e =
       ⊎_elim (λ (z : m ≡ 0). let q = one_none z in let n : ◌≡◌ {A = ℕ} 0 1 = cc in absurd (omega arith))
       (λ (p : 0 < m).
       let q = one_some p in
-      let et : lowest m ≡ t = cc in
-      let el : rest m ≡ left = cc in
+      let is = some_both (q ∙ e) in
+      let et = is.0 in
+      let el = is.1 in
       rw (el, et) at (lowest_taken p)) (eq-zero-or-pos m)
 
-  pub none_free : (taken_one m ≡ NoneFree) ↔ (m ≡ 0)
+  pub none_free : (taken_one m ≡ None) ↔ (m ≡ 0)
   none_free = (λ e. ⊎_elim (λ (z : m ≡ 0). z) (λ (p : 0 < m). never e (one_some p)) (eq-zero-or-pos m), λ z. sym (one_none z))
     where
-      never : {t left : ℕ} → taken_one m ≡ NoneFree → Tag t left ≡ taken_one m → m ≡ 0
+      never : {t left : ℕ} → taken_one m ≡ None → Some (t, left) ≡ taken_one m → m ≡ 0
       never e q = let n : ◌≡◌ {A = ℕ} 0 1 = cc in absurd (omega arith)
 
   free_none : m ≡ 0 → free_count m ≡ 0
@@ -89,7 +88,7 @@ module _ (m : ℕ) (h : m < 2 ^ 64) where
       (eq-zero-or-pos m)
 
   -- the answer, with document 01's number
-  pub one_answered : {x : TakenOne} → x ≡ taken_one m → (x ≡ taken_one m) × ((one_answer m x).0 ≡ tag_refusal 1 m)
+  pub one_answered : {x : Option (ℕ × ℕ)} → x ≡ taken_one m → (x ≡ taken_one m) × ((one_answer m x).0 ≡ tag_refusal 1 m)
   one_answered e = answer_number (λ y. (one_answer m y).0) one_refusal e
 
 -- ---- two tags: one after the other
@@ -131,32 +130,33 @@ module _ (m : ℕ) (h : m < 2 ^ 64) where
         (omega (arith, w.second.low, w.first.low)) w.both
         (λ j a b. sym (w.first.others j (λ q. omega arith)) ∙ w.second.lower j b)
 
-    pub two_some : Tags (lowest m) (lowest (rest m)) (rest (rest m)) ≡ taken_two m
+    pub two_some : Some ((lowest m), (lowest (rest m)), (rest (rest m))) ≡ taken_two m
     unfolding taken_two
     two_some = rw (le-leb 2 (free_count m) two, above_is)
 
-  pub two_none : free_count m < 2 → TooFew ≡ taken_two m
+  pub two_none : free_count m < 2 → None ≡ taken_two m
   unfolding taken_two
   two_none l = rw (lt-leb 2 (free_count m) l)
 
-  pub two_taken : {t u left : ℕ} → taken_two m ≡ Tags t u left → TwoTaken m t u left
+  pub two_taken : {t u left : ℕ} → taken_two m ≡ Some (t, u, left) → TwoTaken m t u left
   two_taken {t} {u} {left} e =
       ⊎_elim (λ (l : free_count m < 2). let q = two_none l in let n : ◌≡◌ {A = ℕ} 0 1 = cc in absurd (omega arith))
       (λ (l : 2 ≤ free_count m).
       let q = two_some l in
-      let et : lowest m ≡ t = cc in
-      let eu : lowest (rest m) ≡ u = cc in
-      let el : rest (rest m) ≡ left = cc in
+      let is : ◌≡◌ {A = ℕ × ℕ × ℕ} (lowest m, lowest (rest m), rest (rest m)) (t, u, left) = cc in
+      let et = ap (λ (x : ℕ × ℕ × ℕ). x.0) is in
+      let eu = ap (λ (x : ℕ × ℕ × ℕ). x.1) is in
+      let el = ap (λ (x : ℕ × ℕ × ℕ). x.2) is in
       rw (el, eu, et) at (lowest_two l)) (lt_or_ge (free_count m) 2)
 
-  pub too_few : (taken_two m ≡ TooFew) ↔ (free_count m < 2)
+  pub too_few : (taken_two m ≡ None) ↔ (free_count m < 2)
   too_few = (
     λ e. ⊎_elim (λ (l : free_count m < 2). l) (λ (l : 2 ≤ free_count m). never e (two_some l)) (lt_or_ge (free_count m) 2),
     λ l. sym
         (two_none l),
   )
     where
-      never : {t u left : ℕ} → taken_two m ≡ TooFew → Tags t u left ≡ taken_two m → free_count m < 2
+      never : {t u left : ℕ} → taken_two m ≡ None → Some (t, u, left) ≡ taken_two m → free_count m < 2
       never e q = let n : ◌≡◌ {A = ℕ} 0 1 = cc in absurd (omega arith)
 
   two_refusal : (two_answer m (taken_two m)).0 ≡ tag_refusal 2 m
@@ -164,7 +164,7 @@ module _ (m : ℕ) (h : m < 2 ^ 64) where
       ⊎_elim (λ (l : free_count m < 2). rw (← two_none l, lt-ltb (free_count m) 2 l))
       (λ (l : 2 ≤ free_count m). rw (← two_some l, le-ltb (free_count m) 2 l)) (lt_or_ge (free_count m) 2)
 
-  pub two_answered : {x : TakenTwo} → x ≡ taken_two m → (x ≡ taken_two m) × ((two_answer m x).0 ≡ tag_refusal 2 m)
+  pub two_answered : {x : Option (ℕ × ℕ × ℕ)} → x ≡ taken_two m → (x ≡ taken_two m) × ((two_answer m x).0 ≡ tag_refusal 2 m)
   two_answered e = answer_number (λ y. (two_answer m y).0) two_refusal e
 
 -- ---- a tag given back

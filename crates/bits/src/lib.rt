@@ -31,41 +31,29 @@ fn clear(mask: u64, tag: u32) -> u64
 }
 
 // The lowest free tag, and the mask without it.
-#[derive(Clone, Copy)]
-pub enum TakenOne {
-    Tag(u32, u64),
-    NoneFree,
-}
-
-pub fn take_one(mask: u64) -> TakenOne
+pub fn take_one(mask: u64) -> Option<(u32, u64)>
     ensures value { result ≡ taken_one mask }
     ensures refusal { (one_answer mask result).0 ≡ tag_refusal 1 mask }
 {
     if mask == 0 {
-        return TakenOne::NoneFree;
+        return None;
     }
     let tag = u64::trailing_zeros(mask);
-    TakenOne::Tag(tag, clear(mask, tag))
+    Some((tag, clear(mask, tag)))
 }
 
 // The two lowest free tags, the lower first, and the mask without them.
-#[derive(Clone, Copy)]
-pub enum TakenTwo {
-    Tags(u32, u32, u64),
-    TooFew,
-}
-
-pub fn take_two(mask: u64) -> TakenTwo
+pub fn take_two(mask: u64) -> Option<(u32, u32, u64)>
     ensures value { result ≡ taken_two mask }
     ensures refusal { (two_answer mask result).0 ≡ tag_refusal 2 mask }
 {
     if u64::count_ones(mask) < 2 {
-        return TakenTwo::TooFew;
+        return None;
     }
     let first = u64::trailing_zeros(mask);
     let rest = clear(mask, first);
     let second = u64::trailing_zeros(rest);
-    TakenTwo::Tags(first, second, clear(rest, second))
+    Some((first, second, clear(rest, second)))
 }
 
 // The mask with a tag free again. A tag that is free already, or above 63, changes nothing.

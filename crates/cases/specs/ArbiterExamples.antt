@@ -1,12 +1,10 @@
 -- Worked examples of arbitration, of turns, levels and the refill, computed from the definitions.
-use Rattle.std.specs.Prelude.{ℕ, zero, suc, ◌+◌, ◌^◌, true, false, List, [], ◌∷◌, ◌++◌, ◌≡◌, refl, drop}
+use Rattle.std.specs.Prelude.{ℕ, zero, suc, ◌+◌, ◌^◌, true, false, List, [], ◌∷◌, ◌++◌, ◌≡◌, refl, drop, Option, Some, None}
 use Rattle.bits.specs.Bits.{is_set, first, some_below}
 use Rattle.arbiter.specs.declared.Remainder.TheVariants.{Left}
 use Rattle.arbiter.specs.declared.Level.{Level}
 use Rattle.arbiter.specs.declared.Arbiter.{Arbiter}
 use Rattle.arbiter.specs.declared.Candidates.{Candidates}
-use Rattle.arbiter.specs.declared.Chosen.{Chosen}
-use Rattle.arbiter.specs.declared.Chosen.TheVariants.{Queue, Nobody}
 use Rattle.arbiter.specs.Word.{burst_of}
 use Rattle.arbiter.specs.Turns.{next_after, turn}
 use Rattle.arbiter.specs.Arbiter.{with_levels, with_credit, fresh, ready, level_turn, some_waits, some_ready, refilled_if_due, by_group}
@@ -38,9 +36,9 @@ abbrev pub times : ℕ → Candidates → List Candidates
 times zero c = []
 times (suc n) c = c ∷ times n c
 
-abbrev pub follow : (Arbiter → List ℕ) → Arbiter → Chosen → List ℕ
-follow f a (Queue i b) = i ∷ f b
-follow f a Nobody = 99 ∷ f a
+abbrev pub follow : (Arbiter → List ℕ) → Arbiter → Option (ℕ × Arbiter) → List ℕ
+follow f a (Some (i, b)) = i ∷ f b
+follow f a None = 99 ∷ f a
 
 -- the queues that are named one after another, by the candidates at each choice; 99 where nobody is
 unfoldable pub named : Arbiter → List Candidates → List ℕ
@@ -103,7 +101,7 @@ Examples =
     × (named (fresh true 1)
     (times 3 (urgents (0 ∷ 1 ∷ [])) ++ urgents (1 ∷ []) ∷ urgents (0 ∷ 1 ∷ []) ∷ times 2 (urgents (1 ∷ 2 ∷ [])))
     ≡ 0 ∷ 0 ∷ 0 ∷ 1 ∷ 0 ∷ 1 ∷ 2 ∷ [])
-    × (choice (fresh true 0) (highs (0 ∷ [])) ≡ Queue 0 (fresh true 0))
+    × (choice (fresh true 0) (highs (0 ∷ [])) ≡ Some (0, fresh true 0))
     -- burst 7: a holder is served while it is a candidate; in a level, here of weight 3, while there is credit
     × (named (fresh false 7) (times 3 (urgents (0 ∷ 1 ∷ 2 ∷ [])) ++ times 2 (urgents (1 ∷ 2 ∷ []))) ≡ 0 ∷ 0 ∷ 0 ∷ 1 ∷ 1 ∷ [])
     × (named (fresh true 0x00000207) (times 6 (lows (1 ∷ 2 ∷ []))) ≡ 1 ∷ 1 ∷ 1 ∷ 2 ∷ 2 ∷ 2 ∷ [])

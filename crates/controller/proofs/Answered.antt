@@ -1,4 +1,5 @@
 -- Every call is refused by one of its numbers, and then leaves everything but for a mark, or answers its values. Assumes nothing.
+use Rattle.std.specs.Prelude.{Option, Some, None}
 use Prim.Native.Nat.{ℕ, ◌+◌}
 use mathlib.Core.List.{[], ◌∷◌, map}
 use mathlib.Core.Logic.{inl, inr, ⊎_elim}
@@ -8,16 +9,10 @@ use lib.ListN.{length}
 use Rattle.rules.specs.Rules.{Table, first_match}
 use Rattle.rules.proofs.Cases.{pick_cases, settle_cases}
 use Rattle.bits.specs.Tags.{taken_one, taken_two}
-use Rattle.bits.specs.declared.TakenOne.{TakenOne}
-use Rattle.bits.specs.declared.TakenOne.TheVariants.{Tag, NoneFree}
-use Rattle.bits.specs.declared.TakenTwo.{TakenTwo}
-use Rattle.bits.specs.declared.TakenTwo.TheVariants.{Tags, TooFew}
 use Rattle.le.specs.Memory.{Memory}
 use Rattle.entry.specs.declared.submission.Submission.{Submission}
 use Rattle.arbiter.specs.Arbiter.{choice}
 use Rattle.arbiter.specs.declared.Arbiter.{Arbiter}
-use Rattle.arbiter.specs.declared.Chosen.{Chosen}
-use Rattle.arbiter.specs.declared.Chosen.TheVariants.{Queue, Nobody}
 use Rattle.controller.specs.Controller.{Controller}
 use Rattle.controller.specs.State.{sq_at, with_sq}
 use Rattle.controller.specs.Answers.{done, outcome, refusing}
@@ -42,20 +37,20 @@ module _ (c : Controller) (m : Memory) where
   no_number n z = inl (_, inr (inr (inr (among (number_rules n) z))), refl)
 
   module _ (id : ℕ) (a : Arbiter) where
-    one : (e : Submission) (v : ℕ) (x : TakenOne) → Answered c m start (with_one c m (one_taken c m id a e v) x)
+    one : (e : Submission) (v : ℕ) (x : Option (ℕ × ℕ)) → Answered c m start (with_one c m (one_taken c m id a e v) x)
     unfolding one_taken
-    one e v NoneFree = inl (13, inr (inr (inl refl)), refl)
-    one e v (Tag t left) = settle_cases (Answered c m start) _ _ _ (λ z. inr (_, refl)) (λ z. no_number c.next_number z)
+    one e v None = inl (13, inr (inr (inl refl)), refl)
+    one e v (Some (t, left)) = settle_cases (Answered c m start) _ _ _ (λ z. inr (_, refl)) (λ z. no_number c.next_number z)
 
-    pair : (e f : Submission) (v : ℕ) (x : TakenTwo) → Answered c m start (with_two c m (pair_taken c m id a e f v) x)
+    pair : (e f : Submission) (v : ℕ) (x : Option (ℕ × ℕ × ℕ)) → Answered c m start (with_two c m (pair_taken c m id a e f v) x)
     unfolding pair_taken
-    pair e f v TooFew = inl (13, inr (inr (inl refl)), refl)
-    pair e f v (Tags t u left) = settle_cases (Answered c m start) _ _ _ (λ z. inr (_, refl)) (λ z. no_number (c.next_number + 1) z)
+    pair e f v None = inl (13, inr (inr (inl refl)), refl)
+    pair e f v (Some (t, u, left)) = settle_cases (Answered c m start) _ _ _ (λ z. inr (_, refl)) (λ z. no_number (c.next_number + 1) z)
 
-  taken : (x : Chosen) → Answered c m start (take_from c m x)
+  taken : (x : Option (ℕ × Arbiter)) → Answered c m start (take_from c m x)
   unfolding take_one take_pair
-  taken Nobody = inl (12, inr (inl refl), refl)
-  taken (Queue id a) =
+  taken None = inl (12, inr (inl refl), refl)
+  taken (Some (id, a)) =
       pick_cases (Answered c m start) (is_pair id (sq_at c id).ring m) _ _ (λ e. pair id a _ _ _ (taken_two c.free))
       (λ e. one id a _ _ (taken_one c.free))
 

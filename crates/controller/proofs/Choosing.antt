@@ -1,4 +1,5 @@
 -- The queue that the arbiter names is a candidate, and it names nobody exactly if there is none. Assumes nothing.
+use Rattle.std.specs.Prelude.{Some, None}
 use Prim.Native.Nat.{ℕ, zero, suc, ◌≤◌, ◌<◌}
 use mathlib.Core.Bool.{Bool, true, false, ◌&&◌, ◌||◌}
 use mathlib.Core.Logic.{◌↔◌}
@@ -13,7 +14,6 @@ use Rattle.bits.proofs.Masks.{mask_is, mask_set}
 use Rattle.bits.proofs.Some.{some_none, none_some}
 use Rattle.arbiter.specs.Arbiter.{some, some_waits, choice, anyone}
 use Rattle.arbiter.specs.declared.Arbiter.{Arbiter}
-use Rattle.arbiter.specs.declared.Chosen.TheVariants.{Queue, Nobody}
 use Rattle.arbiter.proofs.Choice.{Within, named, nobody}
 use Rattle.controller.specs.Controller.{Controller}
 use Rattle.controller.specs.State.{sq_at}
@@ -38,7 +38,7 @@ module _ (c : Controller) where
         low = of_class_lem 3;
       }
 
-  pub chosen : {id : ℕ} {a : Arbiter} → choice c.arbiter (candidates c) ≡ Queue id a → Candidate c id
+  pub chosen : {id : ℕ} {a : Arbiter} → choice c.arbiter (candidates c) ≡ Some (id, a) → Candidate c id
   chosen e = named (Candidate c) (λ i h. h.0) (candidates c) candidates_within c.arbiter e
 
 -- "no SQ is a candidate"
@@ -97,7 +97,7 @@ module _ (c : Controller) (v : Valid c) where
   none_nobody false n = some_none 16 (is_set everyone) (λ i l. mask_is (candidate_at c) 16 i l ∙ n i l)
 
   -- the arbiter names nobody, and the answer is 12, exactly if no SQ is a candidate
-  pub nobody_waits : (choice c.arbiter (candidates c) ≡ Nobody) ↔ NoCandidate c
+  pub nobody_waits : (choice c.arbiter (candidates c) ≡ None) ↔ NoCandidate c
   unfolding anyone candidates some_waits
   nobody_waits =
       let x = nobody (Candidate c) (λ i h. h.0) (candidates c) (candidates_within c) c.arbiter in

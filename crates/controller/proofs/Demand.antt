@@ -1,5 +1,6 @@
 -- DEMAND 1, of every call; and DEMAND 3, over any list of runs: the reader finds exactly what was posted and not yet released. Assumes
 -- nothing.
+use Rattle.std.specs.Prelude.{Ok, Err}
 use Prim.Native.Nat.{ℕ, ◌*◌, ◌<◌, ◌^◌}
 use mathlib.Core.List.{List, [], ◌∷◌, ◌++◌, foldl-append}
 use mathlib.Core.Path.{◌≡◌, refl, sym, ap, ◌∙◌}
@@ -13,7 +14,6 @@ use Rattle.rules.proofs.Tables.{settle_accepted}
 use Rattle.le.specs.Memory.{Memory, Bytes}
 use Rattle.ring.specs.Reader.{read_slots, reader_refusal, ring_read}
 use Rattle.ring.proofs.Phase.{counts, finds, reader_phase_in}
-use Rattle.ring.specs.declared.reader.Waiting.TheVariants.{Count, Refused}
 use Rattle.controller.specs.Controller.{Controller}
 use Rattle.controller.specs.State.{no_cq, cq_at, with_cq}
 use Rattle.controller.specs.Create.{new_cq}
@@ -133,11 +133,11 @@ module _ (h : History) where
       rw (size, whole, queue.head_same, head)
 
   -- "The reader, given the book's head and phase tag, answers how many wait; its slots read as these in order, all five fields equal."
-  pub demand3_count : ring_read (ring_bytes h) (size_of h) (book_head h) (book_phase h) ≡ Count (length (unreleased h))
+  pub demand3_count : ring_read (ring_bytes h) (size_of h) (book_head h) (book_phase h) ≡ Ok (length (unreleased h))
   unfolding ring_read
   demand3_count =
-      settle_accepted _ Refused _ accepts
-      ∙ ap Count (rw (mod-eq_of_lt (reader_phase_in queue.phase), queue.head_same) (counts queue.phase))
+      settle_accepted _ Err _ accepts
+      ∙ ap Ok (rw (mod-eq_of_lt (reader_phase_in queue.phase), queue.head_same) (counts queue.phase))
 
   pub demand3_slots : read_slots (length (unreleased h)) (ring_bytes h) (size_of h) (book_head h) ≡ unreleased h
   demand3_slots = rw queue.head_same queue.phase.slots

@@ -1,4 +1,5 @@
 -- Which refusal number a call answers, exactly when: the tables once more, in propositions. Assumes nothing.
+use Rattle.std.specs.Prelude.{Option, Some, None}
 use Prim.Native.Nat.{ℕ, ◌+◌, ◌*◌, ◌%◌, ◌^◌, ◌≤◌, ◌<◌}
 use mathlib.Core.Bool.{Bool, true, false, not}
 use mathlib.Core.List.{[], ◌∷◌, ◌++◌}
@@ -11,14 +12,10 @@ use borrow.Author.Tests.{lt-ltb}
 use Rattle.rules.specs.Rules.{pick, Table, first_match, settle}
 use Rattle.rules.proofs.Tests.{lt_or_ge, clash, or-true, and_true}
 use Rattle.rules.proofs.Tables.{both, numbered, settle_refused}
-use Rattle.rules.proofs.Cases.{pick_cases}
+use Rattle.rules.proofs.Cases.{pick_cases, some_both}
 use Rattle.rules.proofs.Exactly.{Says, says_is, says_lt, says_eq, says_not, says_as, says_or, says_pick, says_outside}
 use Rattle.rules.proofs.Exactly.{says_iff, says_sure, Reasons, Decided, Matches, decided, NoneOf}
 use Rattle.bits.specs.Tags.{free_count, taken_one, taken_two}
-use Rattle.bits.specs.declared.TakenOne.{TakenOne}
-use Rattle.bits.specs.declared.TakenOne.TheVariants.{Tag, NoneFree}
-use Rattle.bits.specs.declared.TakenTwo.{TakenTwo}
-use Rattle.bits.specs.declared.TakenTwo.TheVariants.{Tags, TooFew}
 use Rattle.bits.proofs.Some.{some_which}
 use Rattle.bits.proofs.Tags.{one_taken_lem, two_taken, none_free, too_few, free_pos}
 use Rattle.le.specs.Memory.{Memory}
@@ -27,8 +24,6 @@ use Rattle.ring.specs.Slots.{next}
 use Rattle.ring.proofs.Exactly.{says_full, TailValue, HeadValue, says_tail, says_head, WrongSize}
 use Rattle.arbiter.specs.Arbiter.{choice}
 use Rattle.arbiter.specs.declared.Arbiter.{Arbiter}
-use Rattle.arbiter.specs.declared.Chosen.{Chosen}
-use Rattle.arbiter.specs.declared.Chosen.TheVariants.{Queue, Nobody}
 use Rattle.controller.specs.declared.Ring.{Ring}
 use Rattle.controller.specs.Controller.{Controller}
 use Rattle.controller.specs.State.{sq_at, cq_at, command_at, outstanding, fresh_controller, new_rules, new_refusal, new_controller}
@@ -292,14 +287,14 @@ module _ {c : Controller} (r : Reachable c) (m : Memory) (id v : ℕ) where
 pub record TooFewTags (c : Controller) (m : Memory) : Type 0 where
   pub id : ℕ
   pub left : Arbiter
-  pub chosen : choice c.arbiter (candidates c) ≡ Queue id left
+  pub chosen : choice c.arbiter (candidates c) ≡ Some (id, left)
   pub few : free_count c.free < needs c m id
 
 -- "A start that would need a number above 18,446,744,073,709,551,614": one of those that the chosen SQ's commands would bear
 pub record NumberAbove (c : Controller) (m : Memory) : Type 0 where
   pub id : ℕ
   pub left : Arbiter
-  pub chosen : choice c.arbiter (candidates c) ≡ Queue id left
+  pub chosen : choice c.arbiter (candidates c) ≡ Some (id, left)
   pub needed : ℕ
   pub from_next : c.next_number ≤ needed
   pub to_last : needed < c.next_number + needs c m id
@@ -312,15 +307,12 @@ take_reasons c m = (TooFewTags c m, 13) ∷ (NumberAbove c m, 32) ∷ []
 abbrev pub start_reasons : Controller → Memory → Reasons
 start_reasons c m = (Outside c (length m), 5) ∷ (NoCandidate c, 12) ∷ take_reasons c m
 
-same_queue : {i j : ℕ} {a b : Arbiter} → Queue i a ≡ Queue j b → i ≡ j
-same_queue e = cc
-
-not_nobody : {i : ℕ} {a : Arbiter} {x : Chosen} → x ≡ Queue i a → x ≡ Nobody → ⊥
+not_nobody : {i : ℕ} {a : Arbiter} {x : Option (ℕ × Arbiter)} → x ≡ Some (i, a) → x ≡ None → ⊥
 not_nobody e f = let z : ◌≡◌ {A = ℕ} 0 1 = cc in omega arith
 
 module _ {c : Controller} (r : Reachable c) (m : Memory) where
   -- 13 or 32 or neither, of the queue chosen
-  module _ (id : ℕ) (a : Arbiter) (e : choice c.arbiter (candidates c) ≡ Queue id a) where
+  module _ (id : ℕ) (a : Arbiter) (e : choice c.arbiter (candidates c) ≡ Some (id, a)) where
     few : {k : ℕ} → needs c m id ≡ k → free_count c.free < k → Decided (take_reasons c m) 13
     few f h = inl (record { id = id; left = a; chosen = e; few = rw f h }, refl)
 
@@ -337,7 +329,7 @@ module _ {c : Controller} (r : Reachable c) (m : Memory) where
           to_last = omega (arith, f);
           above = h;
         })
-        (λ w. let g = ap (needs c m) (same_queue (sym w.chosen ∙ e)) in omega (arith, w.to_last, w.above, g, f))
+        (λ w. let g = ap (needs c m) (some_both (sym w.chosen ∙ e)).0 in omega (arith, w.to_last, w.above, g, f))
       where
         needs_some : 1 ≤ needs c m id
         needs_some = pick_cases (λ (k : ℕ). 1 ≤ k) (is_pair id (sq_at c id).ring m) 2 1 (λ h. lit≤ tt) (λ h. lit≤ tt)
@@ -346,7 +338,7 @@ module _ {c : Controller} (r : Reachable c) (m : Memory) where
         → Decided (take_reasons c m) (number (with_numbers c m n o))
     enough n o f h l z =
         inr (
-          λ w. let g = ap (needs c m) (same_queue (sym w.chosen ∙ e)) in omega (arith, w.few, g, f, h),
+          λ w. let g = ap (needs c m) (some_both (sym w.chosen ∙ e)).0 in omega (arith, w.few, g, f, h),
           settled c m o (number_rules n) ((NumberAbove c m, 32) ∷ []) [] tt (refl, says_above n (rw f l), λ w. tt) (λ w. z),
         )
 
@@ -357,14 +349,14 @@ module _ {c : Controller} (r : Reachable c) (m : Memory) where
         h : c.free < 2 ^ 64
         h = (valid r).free_64
 
-        go : (x : TakenOne) → taken_one c.free ≡ x
+        go : (x : Option (ℕ × ℕ)) → taken_one c.free ≡ x
             → Decided (take_reasons c m) (number (with_one c m (one_taken c m id a first (one_verdict c id first)) x))
-        go NoneFree q =
+        go None q =
             let z = (none_free c.free h).0 q in
             few {k = 1} (rw p)
             (⊎_elim (λ (l : free_count c.free < 1). l)
             (λ (l : 1 ≤ free_count c.free). absurd (omega (arith, (free_pos c.free h).0 l))) (lt_or_ge (free_count c.free) 1))
-        go (Tag t left) q = enough {k = 1} c.next_number _ (rw p) (omega (arith, (one_taken_lem c.free h q).fewer)) refl refl
+        go (Some (t, left)) q = enough {k = 1} c.next_number _ (rw p) (omega (arith, (one_taken_lem c.free h q).fewer)) refl refl
 
     pair : (first second : Submission) → is_pair id (sq_at c id).ring m ≡ true
         → Decided (take_reasons c m) (number (take_pair c m id a first second))
@@ -374,16 +366,16 @@ module _ {c : Controller} (r : Reachable c) (m : Memory) where
         h : c.free < 2 ^ 64
         h = (valid r).free_64
 
-        go : (x : TakenTwo) → taken_two c.free ≡ x
+        go : (x : Option (ℕ × ℕ × ℕ)) → taken_two c.free ≡ x
             → Decided (take_reasons c m) (number (with_two c m (pair_taken c m id a first second (pair_verdict c id first second)) x))
-        go TooFew q = few {k = 2} (rw p) ((too_few c.free h).0 q)
-        go (Tags t u left) q =
+        go None q = few {k = 2} (rw p) ((too_few c.free h).0 q)
+        go (Some (t, u, left)) q =
             enough {k = 2} (c.next_number + 1) _ (rw p) (omega (arith, (two_taken c.free h q).fewer)) (omega arith) refl
 
-  chosen_decided : (x : Chosen) → choice c.arbiter (candidates c) ≡ x
+  chosen_decided : (x : Option (ℕ × Arbiter)) → choice c.arbiter (candidates c) ≡ x
       → Decided ((NoCandidate c, 12) ∷ take_reasons c m) (number (take_from c m x))
-  chosen_decided Nobody e = inl ((nobody_waits c (valid r)).0 e, refl)
-  chosen_decided (Queue id a) e =
+  chosen_decided None e = inl ((nobody_waits c (valid r)).0 e, refl)
+  chosen_decided (Some (id, a)) e =
       inr (
         λ n. not_nobody e ((nobody_waits c (valid r)).1 n),
         pick_cases (λ o. Decided (take_reasons c m) (number o)) (is_pair id (sq_at c id).ring m) _ _ (pair id a e _ _) (one id a e _),

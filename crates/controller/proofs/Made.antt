@@ -1,4 +1,5 @@
 -- What a call comes to, by cases: a refusal, or what the call does, with all that is then known. Assumes nothing.
+use Rattle.std.specs.Prelude.{Option, Some, None}
 use Prim.Native.Nat.{ℕ, ◌+◌, ◌*◌, ◌%◌, ◌^◌, ◌≤◌, ◌<◌}
 use mathlib.Core.Bool.{Bool, true, false, not}
 use mathlib.Core.List.{List}
@@ -13,16 +14,10 @@ use Rattle.rules.proofs.Tests.{or-false, not_no, range}
 use Rattle.rules.proofs.Tables.{Unapplied, numbered, passed}
 use Rattle.rules.proofs.Exactly.{says_eq, says_not, says_pick}
 use Rattle.bits.specs.Tags.{taken_one, taken_two}
-use Rattle.bits.specs.declared.TakenOne.{TakenOne}
-use Rattle.bits.specs.declared.TakenOne.TheVariants.{Tag, NoneFree}
-use Rattle.bits.specs.declared.TakenTwo.{TakenTwo}
-use Rattle.bits.specs.declared.TakenTwo.TheVariants.{Tags, TooFew}
 use Rattle.bits.proofs.Tags.{OneTaken, one_taken_lem, TwoTaken, two_taken}
 use Rattle.le.specs.Memory.{Memory}
 use Rattle.arbiter.specs.Arbiter.{choice}
 use Rattle.arbiter.specs.declared.Arbiter.{Arbiter}
-use Rattle.arbiter.specs.declared.Chosen.{Chosen}
-use Rattle.arbiter.specs.declared.Chosen.TheVariants.{Queue, Nobody}
 use Rattle.controller.specs.Controller.{Controller}
 use Rattle.controller.specs.declared.SubmissionQueue.{SubmissionQueue}
 use Rattle.controller.specs.declared.CompletionQueue.{CompletionQueue}
@@ -104,7 +99,7 @@ needs c m id = pick (is_pair id (sq_at c id).ring m) 2 1
 -- the queue that a start takes from; it needs no number above the last
 pub record Served (c : Controller) (m : Memory) (id : ℕ) (a : Arbiter) : Type 0 where
   pub inside : outside c (length m) ≡ false
-  pub choice : choice c.arbiter (candidates c) ≡ Queue id a
+  pub choice : choice c.arbiter (candidates c) ≡ Some (id, a)
   pub candidate : Candidate c id
   pub numbers : c.next_number + needs c m id ≤ last_number + 1
 
@@ -274,7 +269,7 @@ module _ (c : Controller) (m : Memory) where
       settle_cases (Made c m (head_write id v)) _ _ _ (λ z. moves_head id v (takes_head c id v z)) (λ n. refuses (head_write id v) _)
 
   module _ (h : c.free < 2 ^ 64) (id : ℕ) (a : Arbiter) (i : outside c (length m) ≡ false)
-      (q : choice c.arbiter (candidates c) ≡ Queue id a) where
+      (q : choice c.arbiter (candidates c) ≡ Some (id, a)) where
     -- where n is the highest number that a start needs
     served : (n : ℕ) → first_match (number_rules n) ≡ 0 → c.next_number + needs c m id ≡ n + 1 → Served c m id a
     served n z e =
@@ -285,10 +280,10 @@ module _ (c : Controller) (m : Memory) where
     unfolding take_one
     one_made e = go (taken_one c.free) refl
       where
-        go : (x : TakenOne) → taken_one c.free ≡ x
+        go : (x : Option (ℕ × ℕ)) → taken_one c.free ≡ x
             → Made c m start (with_one c m (head_one_taken c m id a) x)
-        go NoneFree w = refuses start 13
-        go (Tag t left) w =
+        go None w = refuses start 13
+        go (Some (t, left)) w =
             settle_cases (Made c m start) _ _ _
             (λ z. commands (takes_one id a t left (served c.next_number z (rw e)) e (one_taken_lem c.free h w)))
             (λ n. refuses start _)
@@ -297,10 +292,10 @@ module _ (c : Controller) (m : Memory) where
     unfolding take_pair
     pair_made e = go (taken_two c.free) refl
       where
-        go : (x : TakenTwo) → taken_two c.free ≡ x
+        go : (x : Option (ℕ × ℕ × ℕ)) → taken_two c.free ≡ x
             → Made c m start (with_two c m (head_pair_taken c m id a) x)
-        go TooFew w = refuses start 13
-        go (Tags t u left) w =
+        go None w = refuses start 13
+        go (Some (t, u, left)) w =
             settle_cases (Made c m start) _ _ _
             (λ z. commands (takes_pair id a t u left (served (c.next_number + 1) z (rw e (omega arith))) e (two_taken c.free h w)))
             (λ n. refuses start _)
@@ -312,9 +307,9 @@ module _ (c : Controller) (m : Memory) where
       (λ z. go (passed (start_rules c (length m)) tt z).0 (choice c.arbiter (candidates c)) refl)
       (λ n. refuses start _)
     where
-      go : outside c (length m) ≡ false → (x : Chosen) → choice c.arbiter (candidates c) ≡ x → Made c m start (take_from c m x)
-      go i Nobody q = refuses start 12
-      go i (Queue id a) q =
+      go : outside c (length m) ≡ false → (x : Option (ℕ × Arbiter)) → choice c.arbiter (candidates c) ≡ x → Made c m start (take_from c m x)
+      go i None q = refuses start 12
+      go i (Some (id, a)) q =
           pick_cases (Made c m start) (is_pair id (sq_at c id).ring m) _ _ (pair_made h id a i q) (one_made h id a i q)
 
   pub finishable : (tag status : ℕ) → finish_refusal c (length m) tag status ≡ 0 → Finishable c (length m) tag status

@@ -1,4 +1,5 @@
 -- "It does not appear in the ring": controllers that differ in start numbers alone do the same, byte for byte. Assumes nothing.
+use Rattle.std.specs.Prelude.{Option, Some, None}
 use Prim.Native.Nat.{ℕ, zero, suc, ◌+◌, ◌-◌}
 use mathlib.Core.Bool.{Bool, true, false, ◌&&◌}
 use mathlib.Core.List.{List, [], ◌∷◌, ◌++◌, map}
@@ -9,17 +10,11 @@ use lib.ListN.{length, get_or, set, get_or-map}
 use Rattle.rules.specs.Rules.{pick, first_match, settle}
 use Rattle.bits.specs.Bits.{some_below}
 use Rattle.bits.specs.Tags.{given_back, taken_one, taken_two}
-use Rattle.bits.specs.declared.TakenOne.{TakenOne}
-use Rattle.bits.specs.declared.TakenOne.TheVariants.{Tag, NoneFree}
-use Rattle.bits.specs.declared.TakenTwo.{TakenTwo}
-use Rattle.bits.specs.declared.TakenTwo.TheVariants.{Tags, TooFew}
 use Rattle.le.specs.Memory.{Memory}
 use Rattle.entry.specs.Completion.{completion}
 use Rattle.entry.specs.declared.submission.Submission.{Submission}
 use Rattle.arbiter.specs.Arbiter.{choice}
 use Rattle.arbiter.specs.declared.Arbiter.{Arbiter}
-use Rattle.arbiter.specs.declared.Chosen.{Chosen}
-use Rattle.arbiter.specs.declared.Chosen.TheVariants.{Queue, Nobody}
 use Rattle.controller.specs.declared.Command.{Command}
 use Rattle.controller.specs.Controller.{Controller}
 use Rattle.controller.specs.declared.SubmissionQueue.{SubmissionQueue}
@@ -167,18 +162,18 @@ module _ (c : Controller) (ks : List Command) (n : ℕ) (h : Same c.commands ks)
         ap (taking 2 t u v left)
         (set_same (set c.commands t (j c.next_number)) (set ks t (j n)) e u (k (c.next_number + 1)) (k (n + 1)) refl)
 
-    with_one_lem : (v : ℕ) (x : TakenOne)
+    with_one_lem : (v : ℕ) (x : Option (ℕ × ℕ))
         → AlikeOr32 (with_one c m (one_taken c m id a (head_entry c m id) v) x) (with_one d m (one_taken d m id a (head_entry c m id) v) x)
     unfolding one_taken
-    with_one_lem v NoneFree = both_alike (refusing_alike 13)
-    with_one_lem v (Tag t left) = numbers_alike c.next_number n _ _ refl (one_taken_lem v t left)
+    with_one_lem v None = both_alike (refusing_alike 13)
+    with_one_lem v (Some (t, left)) = numbers_alike c.next_number n _ _ refl (one_taken_lem v t left)
 
-    with_two_lem : (v : ℕ) (x : TakenTwo)
+    with_two_lem : (v : ℕ) (x : Option (ℕ × ℕ × ℕ))
         → AlikeOr32 (with_two c m (pair_taken c m id a (head_entry c m id) (next_entry c m id) v) x)
         (with_two d m (pair_taken d m id a (head_entry c m id) (next_entry c m id) v) x)
     unfolding pair_taken
-    with_two_lem v TooFew = both_alike (refusing_alike 13)
-    with_two_lem v (Tags t u left) = numbers_alike (c.next_number + 1) (n + 1) _ _ refl (pair_taken_lem v t u left)
+    with_two_lem v None = both_alike (refusing_alike 13)
+    with_two_lem v (Some (t, u, left)) = numbers_alike (c.next_number + 1) (n + 1) _ _ refl (pair_taken_lem v t u left)
 
     used_alike : (e : Submission) → used c id e ≡ used d id e
     used_alike e = used_same c.commands ks h c.free id e.cid
@@ -194,9 +189,9 @@ module _ (c : Controller) (ks : List Command) (n : ℕ) (h : Same c.commands ks)
         let f = next_entry c m id in
         rw (← used_alike e, ← used_alike f) (with_two_lem (pair_verdict c id e f) (taken_two c.free))
 
-  take_from_lem : (x : Chosen) → AlikeOr32 (take_from c m x) (take_from d m x)
-  take_from_lem Nobody = both_alike (refusing_alike 12)
-  take_from_lem (Queue id a) = pick_alike (is_pair id (sq_at c id).ring m) _ _ _ _ (take_pair_lem id a) (take_one_lem id a)
+  take_from_lem : (x : Option (ℕ × Arbiter)) → AlikeOr32 (take_from c m x) (take_from d m x)
+  take_from_lem None = both_alike (refusing_alike 12)
+  take_from_lem (Some (id, a)) = pick_alike (is_pair id (sq_at c id).ring m) _ _ _ _ (take_pair_lem id a) (take_one_lem id a)
 
   -- ---- finishes
 

@@ -1,4 +1,5 @@
 -- A start is refused with 12 exactly if every ring lies in the memory and "no SQ is a candidate". Assumes nothing.
+use Rattle.std.specs.Prelude.{Option, Some, None}
 use Prim.Native.Nat.{ℕ, ◌+◌}
 use mathlib.Core.Bool.{Bool, true, false}
 use mathlib.Core.Logic.{◌↔◌}
@@ -11,14 +12,8 @@ use Rattle.rules.proofs.Cases.{pick_cases, settle_cases}
 use Rattle.bits.specs.Tags.{taken_one, taken_two}
 use Rattle.le.specs.Memory.{Memory}
 use Rattle.entry.specs.declared.submission.Submission.{Submission}
-use Rattle.bits.specs.declared.TakenOne.{TakenOne}
-use Rattle.bits.specs.declared.TakenOne.TheVariants.{Tag, NoneFree}
-use Rattle.bits.specs.declared.TakenTwo.{TakenTwo}
-use Rattle.bits.specs.declared.TakenTwo.TheVariants.{Tags, TooFew}
 use Rattle.arbiter.specs.Arbiter.{choice}
 use Rattle.arbiter.specs.declared.Arbiter.{Arbiter}
-use Rattle.arbiter.specs.declared.Chosen.{Chosen}
-use Rattle.arbiter.specs.declared.Chosen.TheVariants.{Queue, Nobody}
 use Rattle.controller.specs.Controller.{Controller}
 use Rattle.controller.specs.State.{sq_at}
 use Rattle.controller.specs.Rings.{outside}
@@ -41,13 +36,13 @@ module _ (c : Controller) (m : Memory) where
   with_number n o z =
       settle_cases (λ x. Number x ≡ 12 → ⊥) (first_match (number_rules n)) (refusing c m) o (λ h e. omega arith) (λ h. number_not n)
 
-  with_one_lem : (f : ℕ → ℕ → Outcome) → ((t left : ℕ) → Number (f t left) ≡ 0) → (x : TakenOne) → Number (with_one c m f x) ≡ 12 → ⊥
-  with_one_lem f z NoneFree = λ e. omega arith
-  with_one_lem f z (Tag t left) = with_number c.next_number (f t left) (z t left)
+  with_one_lem : (f : ℕ → ℕ → Outcome) → ((t left : ℕ) → Number (f t left) ≡ 0) → (x : Option (ℕ × ℕ)) → Number (with_one c m f x) ≡ 12 → ⊥
+  with_one_lem f z None = λ e. omega arith
+  with_one_lem f z (Some (t, left)) = with_number c.next_number (f t left) (z t left)
 
-  with_two_lem : (f : ℕ → ℕ → ℕ → Outcome) → ((t u left : ℕ) → Number (f t u left) ≡ 0) → (x : TakenTwo) → Number (with_two c m f x) ≡ 12 → ⊥
-  with_two_lem f z TooFew = λ e. omega arith
-  with_two_lem f z (Tags t u left) = with_number (c.next_number + 1) (f t u left) (z t u left)
+  with_two_lem : (f : ℕ → ℕ → ℕ → Outcome) → ((t u left : ℕ) → Number (f t u left) ≡ 0) → (x : Option (ℕ × ℕ × ℕ)) → Number (with_two c m f x) ≡ 12 → ⊥
+  with_two_lem f z None = λ e. omega arith
+  with_two_lem f z (Some (t, u, left)) = with_number (c.next_number + 1) (f t u left) (z t u left)
 
   one : (id : ℕ) (a : Arbiter) (e : Submission) → Number (take_one c m id a e) ≡ 12 → ⊥
   unfolding take_one one_taken
@@ -57,9 +52,9 @@ module _ (c : Controller) (m : Memory) where
   unfolding take_pair pair_taken
   two id a e f = with_two_lem _ (λ t u left. refl) (taken_two c.free)
 
-  taken : (x : Chosen) → Number (take_from c m x) ≡ 12 → x ≡ Nobody
-  taken Nobody e = refl
-  taken (Queue id a) e =
+  taken : (x : Option (ℕ × Arbiter)) → Number (take_from c m x) ≡ 12 → x ≡ None
+  taken None e = refl
+  taken (Some (id, a)) e =
       absurd (pick_cases (λ s. Number s ≡ 12 → ⊥) (is_pair id (sq_at c id).ring m) _ _ (λ h. two id a _ _) (λ h. one id a _) e)
 
   settled : (b : Bool) (x : Outcome) → Number (settle (pick b 5 0) (refusing c m) x) ≡ 12 → (b ≡ false) × (Number x ≡ 12)
@@ -67,7 +62,7 @@ module _ (c : Controller) (m : Memory) where
   settled true x e = absurd (omega arith)
   settled false x e = (refl, e)
 
-  nobody_taken : (b : Bool) (x : Chosen) → b ≡ false → x ≡ Nobody → (settle (pick b 5 0) (refusing c m) (take_from c m x)).answer ≡ refused 12
+  nobody_taken : (b : Bool) (x : Option (ℕ × Arbiter)) → b ≡ false → x ≡ None → (settle (pick b 5 0) (refusing c m) (take_from c m x)).answer ≡ refused 12
   unfolding settle
   nobody_taken b x e f = rw (e, f) refl
 

@@ -1,12 +1,11 @@
 -- The calls on a controller, and the controllers that calls lead to.
-use Rattle.std.specs.Prelude.{ℕ, Bool, eqb}
+use Rattle.controller.specs.declared.Finished.{Finished}
+use Rattle.std.specs.Prelude.{ℕ, Bool, eqb, Result, Ok, Err}
 use Rattle.rules.specs.Rules.{pick}
 use Rattle.le.specs.Memory.{Memory}
 use Rattle.controller.specs.Controller.{Controller}
 use Rattle.controller.specs.declared.Started.{Started}
 use Rattle.controller.specs.declared.Started.TheVariants as S
-use Rattle.controller.specs.declared.Finished.{Finished}
-use Rattle.controller.specs.declared.Finished.TheVariants as F
 use Rattle.controller.specs.State.{fresh_controller}
 use Rattle.controller.specs.Answers.{Answer, refused, done, started, finished, Outcome}
 use Rattle.controller.specs.Create as create
@@ -41,16 +40,16 @@ result_of (finish tag status result) = result
 abbrev pub of_number : ℕ → Answer
 of_number n = pick (eqb n 0) done (refused n)
 
-abbrev pub of_started : Started → Answer
-of_started (S.One sq tag slot verdict number) =
+abbrev pub of_started : Result Started ℕ → Answer
+of_started (Ok (S.One sq tag slot verdict number)) =
     started (record { sq = sq; count = 1; first = tag; second = 0; slot = slot; verdict = verdict; number = number })
-of_started (S.Pair sq first second slot verdict number) =
+of_started (Ok (S.Pair sq first second slot verdict number)) =
     started (record { sq = sq; count = 2; first = first; second = second; slot = slot; verdict = verdict; number = number })
-of_started (S.Refused n) = refused n
+of_started (Err n) = refused n
 
-abbrev pub of_finished : Finished → Answer
-of_finished (F.Slot slot number) = finished (record { slot = slot; number = number })
-of_finished (F.Refused n) = refused n
+abbrev pub of_finished : Result Finished ℕ → Answer
+of_finished (Ok f) = finished (record { slot = f.slot; number = f.number })
+of_finished (Err n) = refused n
 
 -- a call on a controller, given a memory
 abbrev pub perform : Controller → Memory → Call → Outcome

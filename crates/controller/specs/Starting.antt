@@ -1,12 +1,8 @@
 -- Starting commands.
-use Rattle.std.specs.Prelude.{ℕ, ◌+◌, ◌*◌, ◌%◌, Bool, not, ◌&&◌, [], ◌∷◌, ltb, leb, eqb, length, set}
+use Rattle.std.specs.Prelude.{ℕ, ◌+◌, ◌*◌, ◌%◌, Bool, not, ◌&&◌, [], ◌∷◌, ltb, leb, eqb, length, set, Option, Some, None}
 use Rattle.rules.specs.Rules.{pick, Table, first_match, settle}
 use Rattle.bits.specs.Bits.{mask_of}
 use Rattle.bits.specs.Tags.{taken_one, taken_two, one_answer, two_answer}
-use Rattle.bits.specs.declared.TakenOne.{TakenOne}
-use Rattle.bits.specs.declared.TakenOne.TheVariants.{Tag, NoneFree}
-use Rattle.bits.specs.declared.TakenTwo.{TakenTwo}
-use Rattle.bits.specs.declared.TakenTwo.TheVariants.{Tags, TooFew}
 use Rattle.le.specs.Memory.{Memory, part}
 use Rattle.entry.specs.Submission.{submission_at}
 use Rattle.entry.specs.declared.submission.Submission.{Submission}
@@ -14,8 +10,6 @@ use Rattle.ring.specs.Slots.{next, distance}
 use Rattle.arbiter.specs.Arbiter.{choice, chosen_answer}
 use Rattle.arbiter.specs.declared.Arbiter.{Arbiter}
 use Rattle.arbiter.specs.declared.Candidates.{Candidates}
-use Rattle.arbiter.specs.declared.Chosen.{Chosen}
-use Rattle.arbiter.specs.declared.Chosen.TheVariants as C
 use Rattle.controller.specs.declared.Ring.{Ring}
 use Rattle.controller.specs.declared.SubmissionQueue.{SubmissionQueue}
 use Rattle.controller.specs.declared.Command.{Command}
@@ -98,13 +92,13 @@ abbrev pub with_numbers : Controller → Memory → ℕ → Outcome → Outcome
 with_numbers c m n taken = settle (first_match (number_rules n)) (refusing c m) taken
 
 -- "If the chosen SQ needs more than are free, the answer is 13", and 32 stands "after 13 in the order".
-abbrev pub with_one : Controller → Memory → (ℕ → ℕ → Outcome) → TakenOne → Outcome
-with_one c m f NoneFree = refusing c m (one_answer c.free NoneFree).0
-with_one c m f (Tag t left) = with_numbers c m c.next_number (f t left)
+abbrev pub with_one : Controller → Memory → (ℕ → ℕ → Outcome) → Option (ℕ × ℕ) → Outcome
+with_one c m f None = refusing c m (one_answer c.free None).0
+with_one c m f (Some (t, left)) = with_numbers c m c.next_number (f t left)
 
-abbrev pub with_two : Controller → Memory → (ℕ → ℕ → ℕ → Outcome) → TakenTwo → Outcome
-with_two c m f TooFew = refusing c m (two_answer c.free TooFew).0
-with_two c m f (Tags t u left) = with_numbers c m (c.next_number + 1) (f t u left)
+abbrev pub with_two : Controller → Memory → (ℕ → ℕ → ℕ → Outcome) → Option (ℕ × ℕ × ℕ) → Outcome
+with_two c m f None = refusing c m (two_answer c.free None).0
+with_two c m f (Some (t, u, left)) = with_numbers c m (c.next_number + 1) (f t u left)
 
 -- whether the CID of an entry of queue id is in use
 abbrev pub used : Controller → ℕ → Submission → Bool
@@ -132,9 +126,9 @@ unfoldable pub take_pair : Controller → Memory → ℕ → Arbiter → Submiss
 take_pair c m id a e f = with_two c m (pair_taken c m id a e f (pair_verdict c id e f)) (taken_two c.free)
 
 -- "One start takes one command, or a whole pair": from the queue chosen, and 12 where there is none
-abbrev pub take_from : Controller → Memory → Chosen → Outcome
-take_from c m C.Nobody = refusing c m (chosen_answer c.arbiter C.Nobody).0
-take_from c m (C.Queue id a) =
+abbrev pub take_from : Controller → Memory → Option (ℕ × Arbiter) → Outcome
+take_from c m None = refusing c m (chosen_answer c.arbiter None).0
+take_from c m (Some (id, a)) =
     pick (is_pair id (sq_at c id).ring m) (take_pair c m id a (head_entry c m id) (next_entry c m id)) (take_one c m id a (head_entry c m id))
 
 -- "start 5, 12, 13", then 32: 12 is answered by the choice, 13 by the tags, 32 by the next number

@@ -59,12 +59,11 @@ pub enum Started {
         verdict: u16,
         number: u64,
     },
-    Refused(u64),
 }
 
 // The slot that a finish posts to, and the start number of the command that it posts.
 #[derive(Clone, Copy)]
-pub enum Finished {
-    Slot { slot: u16, number: u64 },
-    Refused(u64),
+pub struct Finished {
+    pub slot: u16,
+    pub number: u64,
 }

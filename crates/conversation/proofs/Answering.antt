@@ -1,6 +1,7 @@
 -- Laws of an answer that is shown. Assumes nothing.
 use mathlib.Core.List.{List, ◌++◌}
-use mathlib.Core.Path.{◌≡◌}
+use mathlib.Core.Bool.{Bool}
+use mathlib.Core.Path.{◌≡◌, ap, ◌∙◌}
 use Prim.Native.Nat.{ℕ, ◌+◌, ◌-◌, ◌≤◌}
 use native.Mathlib.Omega.{arith}
 use lib.ListN.{length, take, drop, length-drop}
@@ -15,7 +16,8 @@ use Rattle.stateless.specs.Leaving.{answer_bytes}
 use Rattle.shell.specs.Leaving.{Leaves}
 use Rattle.stateless.specs.declared.speak.Answered as code
 use Rattle.conversation.specs.Sizes.{shown_most}
-use Rattle.conversation.specs.Answers.{Shows}
+use Rattle.conversation.specs.Answers.{verdict_of, Shows}
+use Rattle.conversation.specs.declared.Verdict.{Verdict}
 
 -- a line put at a place p, and the rest of the buffer from s on, behind the room for a mark
 module _ (f : Form) (line : List ℕ) {o o₁ : List ℕ} {p m : ℕ} (s : ℕ) (x : Put o p (above f line) o₁ m) (i : s ≡ m + length (mark f))
@@ -47,14 +49,13 @@ module _ (f : Form) (line : List ℕ) {o o₁ : List ℕ} {p m : ℕ} (s : ℕ) 
       room_aside f line a.text s t.length x i l.text answer_fits all_fits,
     )
 
-    pub shows : {o₃ : List ℕ} {e : ℕ} → Put o₂ m (aside f line (standing f o₂ m t.length)) o₃ e
-        → Shows a f line o p o₃ (record { end = e; lent = t.lent; good = t.good; refusal = t.refusal }) words bytes
-    shows {o₃} {e} z =
+    pub shows : {o₃ : List ℕ} {e : ℕ} {v : Verdict} → Put o₂ m (aside f line (standing f o₂ m t.length)) o₃ e
+        → v ≡ verdict_of t.good t.refusal → Shows a f line o p o₃ (record { end = e; lent = t.lent; verdict = v }) words bytes
+    shows {o₃} {e} {v} z q =
         let w = put_shown f line a.text s t.length x i l.text answer_fits all_fits z in
         record {
           text = w;
-          good = l.good;
-          refusal = l.refusal;
+          verdict = q ∙ ap (λ (b : Bool). verdict_of b t.refusal) l.good ∙ ap (verdict_of a.good) l.refusal;
           lent = l.lent;
           controller = l.controller;
           memory = l.memory;

@@ -1,12 +1,13 @@
 -- The steps of a conversation.
-use Rattle.std.specs.Prelude.{ℕ, ◌≤◌, true, List, ◌≡◌, length, take}
+use Rattle.std.specs.Prelude.{ℕ, ◌≤◌, true, List, ◌≡◌, length, take, ⊤, Result, IfOk}
 use Rattle.store.specs.Held.{held, Reached}
+use Rattle.stream.specs.declared.Errno.{Errno}
 use Rattle.lines.specs.Sizes.{chunk_bytes, held_bytes}
 use Rattle.lines.specs.Inside.{Inside}
 use Rattle.lines.specs.Steps.{no_line, filled_by, Scanned}
 use Rattle.lines.specs.declared.Lines.{Lines}
 use Rattle.lines.specs.declared.Found.{Found}
-use Rattle.lines.specs.declared.Found.TheVariants.{Line}
+use Rattle.lines.specs.declared.Found.TheVariants as F
 use Rattle.lines.specs.declared.Step as lines
 use Rattle.form.specs.declared.Form.{Form}
 use Rattle.language.specs.Vocabulary.{memory_bytes}
@@ -15,6 +16,8 @@ use Rattle.language.specs.Line.{answered}
 use Rattle.conversation.specs.Sizes.{out_bytes}
 use Rattle.conversation.specs.Answers.{Shows}
 use Rattle.conversation.specs.declared.Conversation.{Conversation}
+use Rattle.conversation.specs.declared.Event.{Event}
+use Rattle.conversation.specs.declared.Event.TheVariants as E
 use Rattle.conversation.specs.declared.Shown.{Shown}
 use Rattle.conversation.specs.declared.Step.{Step}
 
@@ -35,10 +38,10 @@ pub record Sized (m c l o : List ℕ) : Type 0 where
   pub line : length l ≡ held_bytes
   pub out : length o ≡ out_bytes
 
--- a step of the reader of lines: by a read that gave n bytes or the error e, where the chunk is used up and more may come; or in the chunk
+-- a step of the reader of lines: by a read that gave some bytes or an error, where the chunk is used up and more may come; or in the chunk
 pub data Took (l : Lines) (chunk line₀ line₁ : List ℕ) (r : lines.Step) : Type 0 where
-  by_read : (n e : ℕ) → l.more ≡ true → l.read ≡ l.count → n ≤ chunk_bytes → r ≡ filled_by l n e → line₁ ≡ line₀
-      → Took l chunk line₀ line₁ r
+  by_read : (got : Result ℕ Errno) → l.more ≡ true → l.read ≡ l.count → IfOk got (λ n. n ≤ chunk_bytes) → r ≡ filled_by l got
+      → line₁ ≡ line₀ → Took l chunk line₀ line₁ r
   in_chunk : Scanned l chunk line₀ line₁ r → Took l chunk line₀ line₁ r
 
 -- the buffers that a step may leave otherwise
@@ -52,29 +55,40 @@ abbrev pub buffers : List ℕ → List ℕ → List ℕ → List ℕ → Buffers
 buffers w m l o = record { words = w; memory = m; line = l; out = o }
 
 -- a step that ends no line
-abbrev pub without_line : Conversation → Found → ℕ → Step
-without_line s f place = record { conversation = s; found = f; end = place; length = 0; good = true; refusal = 0 }
+abbrev pub without_line : Conversation → Event → ℕ → Step
+without_line s e place = record { conversation = s; event = e; end = place }
 
--- a step by which a line ends, and is answered
-abbrev pub with_line : lines.Step → Shown → Step
-with_line t a =
+-- a step by which a line of n bytes ends, and is answered
+abbrev pub with_line : lines.Step → ℕ → Shown → Step
+with_line t n a =
     record {
       conversation = record { lent = a.lent; lines = t.lines };
-      found = Line;
+      event = E.Line n a.verdict;
       end = a.end;
-      length = t.length;
-      good = a.good;
-      refusal = a.refusal;
     }
+
+-- what the reader of lines finds is told as it is, where it is no line
+abbrev pub Told : Found → Event → Type 0
+Told (F.Line n) e = ⊥
+Told F.Nothing e = e ≡ E.Nothing
+Told F.End e = e ≡ E.End
+Told (F.Failed x) e = e ≡ E.Failed x
 
 -- what comes of a step of the reader of lines: a line that ended is answered; else nothing changes
 pub data Comes (s : Conversation) (form : Form) (place : ℕ) (t : lines.Step) (b₀ b₁ : Buffers) (r : Step) : Type 0 where
-  line : (a : Shown) → t.found ≡ Line
-      → Shows (answered (console (held b₀.words) b₀.memory s.lent) t.lines.ended (take t.length b₁.line)) form
-      (take t.length b₁.line) b₀.out place b₁.out a b₁.words b₁.memory
-      → r ≡ with_line t a → Comes s form place t b₀ b₁ r
-  none : (t.found ≡ Line → ⊥) → b₁ ≡ buffers b₀.words b₀.memory b₁.line b₀.out
-      → r ≡ without_line (record { lent = s.lent; lines = t.lines }) t.found place → Comes s form place t b₀ b₁ r
+  line : (n : ℕ) (a : Shown) → t.found ≡ F.Line n
+      → Shows (answered (console (held b₀.words) b₀.memory s.lent) t.lines.ended (take n b₁.line)) form
+      (take n b₁.line) b₀.out place b₁.out a b₁.words b₁.memory
+      → r ≡ with_line t n a → Comes s form place t b₀ b₁ r
+  none : (e : Event) → Told t.found e → b₁ ≡ buffers b₀.words b₀.memory b₁.line b₀.out
+      → r ≡ without_line (record { lent = s.lent; lines = t.lines }) e place → Comes s form place t b₀ b₁ r
+
+-- a line that is answered is no longer than is held
+abbrev pub Short : Event → Type 0
+Short (E.Line n v) = n ≤ held_bytes
+Short E.Nothing = ⊤
+Short E.End = ⊤
+Short (E.Failed x) = ⊤
 
 -- a step of a conversation
 pub record Talks (s : Conversation) (form : Form) (place : ℕ) (chunk : List ℕ) (b₀ b₁ : Buffers) (r : Step) : Type 0 where
@@ -83,4 +97,4 @@ pub record Talks (s : Conversation) (form : Form) (place : ℕ) (chunk : List �
   pub comes : Comes s form place read b₀ b₁ r
   pub kept : Kept r.conversation b₁.words
   pub fits : r.end ≤ out_bytes
-  pub short : r.length ≤ held_bytes
+  pub short : Short r.event

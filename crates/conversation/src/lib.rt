@@ -9,7 +9,7 @@ ghost use Rattle.language.specs.State.{console};
 ghost use Rattle.language.specs.Line.{answered};
 ghost use Rattle.shell.specs.Leaving.{Ready, Working};
 ghost use Rattle.conversation.specs.Sizes.{out_bytes, room_bytes, shown_most};
-ghost use Rattle.conversation.specs.Answers.{Shows};
+ghost use Rattle.conversation.specs.Answers.{verdict_of, Shows};
 ghost use Rattle.conversation.specs.Steps.{none_read, Kept, Sized, Took, buffers, without_line, Talks};
 
 use form::{Form, indent, put_aside, put_line};
@@ -17,6 +17,7 @@ use language::sizes::{ANSWER_BYTES, MEMORY_BYTES, NUMBERS};
 use lines::{Found, HELD_BYTES, Lines};
 use std::io::Read;
 use store::WORDS;
+use stream::Errno;
 
 // What is written at once.
 pub const OUT_BYTES: usize = 65536;
@@ -31,26 +32,37 @@ pub struct Conversation {
     pub lines: Lines,
 }
 
-// The place after a line's answer, and how many bytes of the memory are lent afterwards; whether the line was good, and the number by which
-// a change that it asked for was refused, 0 for none.
+// What came of a line: it was good; it was bad; or a change that it asked for was refused, by that number.
+#[derive(Clone, Copy)]
+pub enum Verdict {
+    Good,
+    Bad,
+    Refused(u64),
+}
+
+// The place after a line's answer, how many bytes of the memory are lent afterwards, and what came of the line.
 #[derive(Clone, Copy)]
 pub struct Shown {
     pub end: usize,
     pub lent: usize,
-    pub good: bool,
-    pub refusal: u64,
+    pub verdict: Verdict,
 }
 
-// The conversation after a step, what the step found, and the place after what it put. Of a line that ended: its length, whether it was
-// good, and the number by which a change that it asked for was refused, 0 for none.
+// What a step finds: a line of so many bytes, and what came of it; nothing yet; the end of the file; or an error.
+#[derive(Clone, Copy)]
+pub enum Event {
+    Line { length: usize, verdict: Verdict },
+    Nothing,
+    End,
+    Failed(Errno),
+}
+
+// The conversation after a step, what the step found, and the place after what it put.
 #[derive(Clone, Copy)]
 pub struct Step {
     pub conversation: Conversation,
-    pub found: Found,
+    pub event: Event,
     pub end: usize,
-    pub length: usize,
-    pub good: bool,
-    pub refusal: u64,
 }
 
 // No line is read yet, and all of the memory is lent.
@@ -62,6 +74,18 @@ pub fn first() -> Conversation
         lent: MEMORY_BYTES,
         lines: lines,
     }
+}
+
+fn verdict_of(good: bool, refusal: u64) -> Verdict
+    ensures { result ≡ verdict_of good refusal }
+{
+    if !good {
+        return Verdict::Bad;
+    }
+    if refusal == 0 {
+        return Verdict::Good;
+    }
+    Verdict::Refused(refusal)
 }
 
 // Answers a line of a number in a form, from `at` on. The last three buffers are to work in.
@@ -99,8 +123,7 @@ pub fn answer(
     Shown {
         end: put_aside(form, line, out, to, answered.length),
         lent: answered.lent,
-        good: answered.good,
-        refusal: answered.refusal,
+        verdict: verdict_of(answered.good, answered.refusal),
     }
 }
 
@@ -111,24 +134,20 @@ fn read(input: &mut impl Read, lines: Lines, chunk: &mut [u8], line: &mut [u8]) 
 {
     if lines.more {
         if lines.read == lines.count {
-            let got = stream::read(input, chunk);
-            return lines::filled(lines, got.count, got.error);
+            return lines::filled(lines, stream::read(input, chunk));
         }
     }
     lines::scan(lines, chunk, line)
 }
 
 // A step that ends no line.
-fn without_line(conversation: Conversation, found: Found, at: usize) -> Step
-    ensures { result ≡ without_line conversation found at }
+fn without_line(conversation: Conversation, event: Event, at: usize) -> Step
+    ensures { result ≡ without_line conversation event at }
 {
     Step {
         conversation: conversation,
-        found: found,
+        event: event,
         end: at,
-        length: 0,
-        good: true,
-        refusal: 0,
     }
 }
 
@@ -156,15 +175,16 @@ pub fn next(
 {
     let step = read(input, s.lines, chunk, line);
     let lines = step.lines;
-    let found = step.found;
-    let Found::Line = found else {
-        let conversation = Conversation {
-            lent: s.lent,
-            lines: lines,
-        };
-        return without_line(conversation, found, at);
+    let unanswered = Conversation {
+        lent: s.lent,
+        lines: lines,
     };
-    let length = step.length;
+    let length = match step.found {
+        Found::Line(length) => length,
+        Found::Nothing => return without_line(unanswered, Event::Nothing, at),
+        Found::End => return without_line(unanswered, Event::End, at),
+        Found::Failed(error) => return without_line(unanswered, Event::Failed(error), at),
+    };
     let shown = answer(
         state,
         memory,
@@ -183,10 +203,10 @@ pub fn next(
             lent: shown.lent,
             lines: lines,
         },
-        found: Found::Line,
+        event: Event::Line {
+            length: length,
+            verdict: shown.verdict,
+        },
         end: shown.end,
-        length: length,
-        good: shown.good,
-        refusal: shown.refusal,
     }
 }

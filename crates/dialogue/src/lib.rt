@@ -7,12 +7,13 @@ ghost use Rattle.conversation.specs.Sizes.{out_bytes, room_bytes};
 ghost use Rattle.conversation.specs.Steps.{none_read, Sized};
 ghost use Rattle.dialogue.specs.Kept.{Kept};
 
-use conversation::{Conversation, OUT_BYTES, ROOM_BYTES};
+use conversation::{Conversation, Event, OUT_BYTES, ROOM_BYTES};
 use form::Form;
 use language::sizes::{MEMORY_BYTES, NUMBERS, WALK_BYTES};
-use lines::{CHUNK_BYTES, Found, HELD_BYTES};
+use lines::{CHUNK_BYTES, HELD_BYTES};
 use std::io::{Read, Write};
 use store::{Controller, WORDS};
+use stream::Errno;
 
 // Of how many lines the answers are written out, and how many bytes of answers are not yet; whether the conversation goes on,
 // and the form of its answers.
@@ -26,12 +27,13 @@ struct Dialogue {
 }
 
 // Says on standard error what failed, by which error and where, and ends the conversation.
-fn fail(rt: &impl Eprint, mut s: Dialogue, what: &str, error: u64) -> Dialogue
+fn fail(rt: &impl Eprint, mut s: Dialogue, what: &str, error: Errno) -> Dialogue
     ensures { (result.conversation ≡ s.conversation) × (result.unwritten ≡ s.unwritten) }
 {
+    let number = error.number;
     let line = s.answered.wrapping_add(1);
     let _ = eprintln!(rt;
-        "console: {what} error {error} at line {line}: all lines before it are answered"
+        "console: {what} error {number} at line {line}: all lines before it are answered"
     );
     s.open = false;
     s
@@ -47,13 +49,10 @@ fn write_out(rt: &impl Eprint, output: &mut impl Write, mut s: Dialogue, out: &[
     if !s.open {
         return s;
     }
-    let error = stream::write(output, &out[..n]);
-    if error > 0 {
+    if let Err(error) = stream::write(output, &out[..n]) {
         return fail(rt, s, "write", error);
     }
-    let conversation = s.conversation;
-    let lines = conversation.lines;
-    s.answered = lines.ended;
+    s.answered = s.conversation.lines.ended;
     s
 }
 
@@ -65,8 +64,7 @@ fn with_room(rt: &impl Eprint, output: &mut impl Write, s: Dialogue, out: &[u8])
     if OUT_BYTES - s.unwritten < ROOM_BYTES {
         return write_out(rt, output, s, out);
     }
-    let conversation = s.conversation;
-    let lines = conversation.lines;
+    let lines = s.conversation.lines;
     if lines.read == lines.count {
         return write_out(rt, output, s, out);
     }
@@ -94,23 +92,20 @@ fn after(
     requires { (step.end ≤ out_bytes) × (out_bytes ≡ length out.now) }
     ensures { (result.conversation ≡ step.conversation) × (result.unwritten ≤ out_bytes) }
 {
-    let conversation = step.conversation;
-    let found = step.found;
-    s.conversation = conversation;
+    s.conversation = step.conversation;
     s.unwritten = step.end;
-    match found {
-        Found::Line | Found::Nothing => s,
-        Found::End => finish(rt, output, s, out),
-        Found::Failed(error) => fail(rt, s, "read", error),
+    match step.event {
+        Event::Line { .. } | Event::Nothing => s,
+        Event::End => finish(rt, output, s, out),
+        Event::Failed(error) => fail(rt, s, "read", error),
     }
 }
 
 fn first(form: Form) -> Dialogue
     ensures { (result.conversation ≡ none_read) × (result.unwritten ≡ 0) }
 {
-    let conversation = conversation::first();
     Dialogue {
-        conversation: conversation,
+        conversation: conversation::first(),
         answered: 0,
         unwritten: 0,
         open: true,
@@ -183,8 +178,7 @@ fn turn(
     )
 }
 
-// A proved loop has to end, and nothing says that the input does: so the turns are counted down, from a number that no run
-// uses up.
+// A proved loop has to end, and nothing says that the input does: so the turns are bounded by a number that no run uses up.
 fn converse(rt: &impl Eprint, input: &mut impl Read, output: &mut impl Write, form: Form) {
     let created = Controller::new(0, 0);
     let controller = created.controller;
@@ -197,8 +191,10 @@ fn converse(rt: &impl Eprint, input: &mut impl Read, output: &mut impl Write, fo
     let mut addresses = [0u8; WALK_BYTES];
     let mut counts = [0u8; WALK_BYTES];
     let mut s = first(form);
-    let mut turns = u64::MAX;
-    while turns > 0 && s.open {
+    for _ in 0..u64::MAX {
+        if !s.open {
+            break;
+        }
         s = turn(
             rt,
             input,
@@ -213,7 +209,6 @@ fn converse(rt: &impl Eprint, input: &mut impl Read, output: &mut impl Write, fo
             &mut addresses,
             &mut counts,
         );
-        turns -= 1;
     }
 }
 

@@ -1,4 +1,5 @@
 -- A completion entry that was written is read back, and one that was read is written again. Assumes nothing.
+use Rattle.std.specs.Prelude.{Ok}
 use Prim.Native.Nat.{ℕ, ◌+◌, ◌*◌, ◌/◌, ◌%◌, ◌≤◌, ◌<◌, ◌^◌}
 use mathlib.Core.Path.{◌≡◌, refl, sym, ap, ◌∙◌}
 use mathlib.Core.Bool.{false}
@@ -14,7 +15,6 @@ use Rattle.le.proofs.Numbers.{le_at_field, le_le_at}
 use Rattle.le.proofs.Parts.{put_length, part_add}
 use Rattle.entry.specs.Completion.{completion_bytes, completion_at, phase_tag, write_refusal, written, completion_read}
 use Rattle.entry.specs.declared.completion.Completion.{Completion}
-use Rattle.entry.specs.declared.completion.CompletionRead.TheVariants.{Entry}
 
 -- each field within its bytes
 pub record Within (e : Completion) : Type 0 where
@@ -53,7 +53,7 @@ module _ (e : Completion) (phase : ℕ) (rest : List ℕ) (w : Within e) where
 
 -- the reader finds what the writer wrote
 pub completion_read_lem : (b : List ℕ) (e : Completion) (phase : ℕ) → Within e → 16 ≤ length b
-    → completion_read (written b e phase) ≡ Entry e (phase % 2)
+    → completion_read (written b e phase) ≡ Ok (e, (phase % 2))
 unfolding completion_read written write_refusal settle put
 completion_read_lem b e phase w h =
     let small : ltb 32767 e.status ≡ false = le-ltb 32767 e.status w.status in

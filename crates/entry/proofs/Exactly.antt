@@ -1,4 +1,5 @@
 -- Which refusal the writers and readers of entries answer, exactly when; and which bytes are which field, computed. Assumes nothing.
+use Rattle.std.specs.Prelude.{Err}
 use Prim.Native.Nat.{ℕ, zero, suc, ◌<◌}
 use mathlib.Core.List.{List, [], ◌∷◌, ◌++◌}
 use mathlib.Core.Path.{◌≡◌, refl}
@@ -8,9 +9,7 @@ use Rattle.rules.proofs.Cases.{settle_number}
 use Rattle.rules.proofs.Exactly.{says_lt, Decided, decided}
 use Rattle.le.specs.Le.{le, le_at}
 use Rattle.entry.specs.declared.completion.Completion.{Completion}
-use Rattle.entry.specs.declared.completion.CompletionRead.TheVariants as C
 use Rattle.entry.specs.declared.submission.Submission.{Submission}
-use Rattle.entry.specs.declared.submission.SubmissionRead.TheVariants as S
 use Rattle.entry.specs.Completion as completion
 use Rattle.entry.specs.Completion.{completion_bytes, completion_at, phase_tag, completion_answer, completion_read}
 use Rattle.entry.specs.Submission as submission
@@ -33,11 +32,11 @@ submission_writer n = decided ((ltb n 64, 21) ∷ []) ((n < 64, 21) ∷ []) (ref
 module _ (b : List ℕ) where
   pub completion_number : (completion_answer (completion_read b)).0 ≡ completion.read_refusal (length b)
   unfolding completion_read
-  completion_number = settle_number (λ r. (completion_answer r).0) (completion.read_refusal (length b)) C.Refused _ (λ k. refl) refl
+  completion_number = settle_number (λ r. (completion_answer r).0) (completion.read_refusal (length b)) Err _ (λ k. refl) refl
 
   pub submission_number : (submission_answer (submission_read b)).0 ≡ submission.read_refusal (length b)
   unfolding submission_read
-  submission_number = settle_number (λ r. (submission_answer r).0) (submission.read_refusal (length b)) S.Refused _ (λ k. refl) refl
+  submission_number = settle_number (λ r. (submission_answer r).0) (submission.read_refusal (length b)) Err _ (λ k. refl) refl
 
   pub completion_reader : Decided ((length b < 16, 21) ∷ []) (completion_answer (completion_read b)).0
   completion_reader =

@@ -1,4 +1,5 @@
 -- A submission entry that was written is read back, and one that was read is written again. Assumes nothing.
+use Rattle.std.specs.Prelude.{Ok}
 use Prim.Native.Nat.{ℕ, ◌+◌, ◌*◌, ◌/◌, ◌%◌, ◌≤◌, ◌<◌, ◌^◌}
 use mathlib.Core.Path.{◌≡◌, refl, sym, ap, ◌∙◌}
 use mathlib.Core.Bool.{false}
@@ -14,7 +15,6 @@ use Rattle.le.proofs.Numbers.{le_at_field, le_at_lt, le_le_at}
 use Rattle.le.proofs.Parts.{put_length, part_add}
 use Rattle.entry.specs.Submission.{submission_bytes, submission_at, flags, write_refusal, written, submission_read}
 use Rattle.entry.specs.declared.submission.Submission.{Submission}
-use Rattle.entry.specs.declared.submission.SubmissionRead.TheVariants.{Entry}
 
 -- each field within its bytes; FUSE and PSDT may be any number
 pub record Within (e : Submission) : Type 0 where
@@ -81,7 +81,7 @@ module _ (e : Submission) (rest : List ℕ) (w : Within e) where
       rw (fuse, psdt, opc, cid, nsid, mptr, prp1, prp2, slba, nlb, cdw12_upper, cdw13, cdw14, cdw15)
 
 -- the reader finds what the writer wrote
-pub submission_read_lem : (b : List ℕ) (e : Submission) → Within e → 64 ≤ length b → submission_read (written b e) ≡ Entry (reduced e)
+pub submission_read_lem : (b : List ℕ) (e : Submission) → Within e → 64 ≤ length b → submission_read (written b e) ≡ Ok (reduced e)
 unfolding submission_read written write_refusal settle put
 submission_read_lem b e w h =
     let room : ltb (length b) 64 ≡ false = le-ltb (length b) 64 h in

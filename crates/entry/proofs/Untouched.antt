@@ -1,4 +1,5 @@
 -- What the writers of entries leave of their buffers, which reserved bytes they clear, and what stands beside a refusal. Assumes nothing.
+use Rattle.std.specs.Prelude.{Result, Ok, Err}
 use Prim.Native.Nat.{ℕ, ◌+◌, ◌/◌, ◌%◌, ◌≤◌}
 use mathlib.Core.List.{List, [], ◌∷◌}
 use mathlib.Core.Logic.{inr}
@@ -15,11 +16,7 @@ use Rattle.le.specs.Memory.{put}
 use Rattle.le.proofs.Numbers.{le_at_field}
 use Rattle.le.proofs.Parts.{put_length, put_out}
 use Rattle.entry.specs.declared.completion.Completion.{Completion}
-use Rattle.entry.specs.declared.completion.CompletionRead.{CompletionRead}
-use Rattle.entry.specs.declared.completion.CompletionRead.TheVariants as C
 use Rattle.entry.specs.declared.submission.Submission.{Submission}
-use Rattle.entry.specs.declared.submission.SubmissionRead.{SubmissionRead}
-use Rattle.entry.specs.declared.submission.SubmissionRead.TheVariants as S
 use Rattle.entry.specs.Completion as completion
 use Rattle.entry.specs.Completion.{completion_bytes, completion_answer}
 use Rattle.entry.specs.Submission as submission
@@ -108,12 +105,12 @@ module _ (b : List ℕ) where
 
 -- ---- "every other number in its answer is 0" beside a refusal
 
-pub completion_refused : (r : CompletionRead) → ((completion_answer r).0 ≡ 0 → ⊥)
+pub completion_refused : (r : Result (Completion × ℕ) ℕ) → ((completion_answer r).0 ≡ 0 → ⊥)
     → ((completion_answer r).1 ≡ completion.completion 0 0 0 0 0) × ((completion_answer r).2 ≡ 0)
-completion_refused (C.Entry e phase) n = absurd (n refl)
-completion_refused (C.Refused k) n = (refl, refl)
+completion_refused (Ok (e, phase)) n = absurd (n refl)
+completion_refused (Err k) n = (refl, refl)
 
-pub submission_refused : (r : SubmissionRead) → ((submission_answer r).0 ≡ 0 → ⊥)
+pub submission_refused : (r : Result Submission ℕ) → ((submission_answer r).0 ≡ 0 → ⊥)
     → (submission_answer r).1
     ≡ record {
       opc = 0;
@@ -131,5 +128,5 @@ pub submission_refused : (r : SubmissionRead) → ((submission_answer r).0 ≡ 0
       cdw14 = 0;
       cdw15 = 0;
     }
-submission_refused (S.Entry e) n = absurd (n refl)
-submission_refused (S.Refused k) n = refl
+submission_refused (Ok e) n = absurd (n refl)
+submission_refused (Err k) n = refl

@@ -1,11 +1,9 @@
 -- The completion entry, its writer and its reader.
-use Rattle.std.specs.Prelude.{ℕ, ◌+◌, ◌*◌, ◌/◌, ◌%◌, List, [], ◌∷◌, ◌++◌, ltb, length}
+use Rattle.std.specs.Prelude.{ℕ, ◌+◌, ◌*◌, ◌/◌, ◌%◌, List, [], ◌∷◌, ◌++◌, ltb, length, Result, Ok, Err}
 use Rattle.rules.specs.Rules.{first_match, settle}
 use Rattle.le.specs.Le.{le, le_at}
 use Rattle.le.specs.Memory.{put}
 use Rattle.entry.specs.declared.completion.Completion.{Completion}
-use Rattle.entry.specs.declared.completion.CompletionRead.{CompletionRead}
-use Rattle.entry.specs.declared.completion.CompletionRead.TheVariants.{Entry, Refused}
 
 abbrev pub completion : ℕ → ℕ → ℕ → ℕ → ℕ → Completion
 completion result sqhd sqid cid status = record { result = result; sqhd = sqhd; sqid = sqid; cid = cid; status = status }
@@ -32,14 +30,14 @@ unfoldable pub written : List ℕ → Completion → ℕ → List ℕ
 written b e phase = settle (write_refusal (length b) e.status) (λ n. b) (put b 0 (completion_bytes e phase))
 
 -- document 01's number and values for each answer of the reader: 0, the fields and the phase tag, or the refusal number and zeros
-abbrev pub completion_answer : CompletionRead → ℕ × Completion × ℕ
-completion_answer (Entry e phase) = (0, e, phase)
-completion_answer (Refused n) = (n, completion 0 0 0 0 0, 0)
+abbrev pub completion_answer : Result (Completion × ℕ) ℕ → ℕ × Completion × ℕ
+completion_answer (Ok (e, phase)) = (0, e, phase)
+completion_answer (Err n) = (n, completion 0 0 0 0 0, 0)
 
 -- the refusal of the reader on n bytes
 abbrev pub read_refusal : ℕ → ℕ
 read_refusal n = first_match ((ltb n 16, 21) ∷ [])
 
 -- the reader's answer
-unfoldable pub completion_read : List ℕ → CompletionRead
-completion_read b = settle (read_refusal (length b)) Refused (Entry (completion_at b) (phase_tag b))
+unfoldable pub completion_read : List ℕ → Result (Completion × ℕ) ℕ
+completion_read b = settle (read_refusal (length b)) Err (Ok (completion_at b, phase_tag b))

@@ -1,11 +1,9 @@
 -- The submission entry, its writer and its reader.
-use Rattle.std.specs.Prelude.{ℕ, ◌+◌, ◌*◌, ◌/◌, ◌%◌, List, [], ◌∷◌, ◌++◌, ltb, length}
+use Rattle.std.specs.Prelude.{ℕ, ◌+◌, ◌*◌, ◌/◌, ◌%◌, List, [], ◌∷◌, ◌++◌, ltb, length, Result, Ok, Err}
 use Rattle.rules.specs.Rules.{first_match, settle}
 use Rattle.le.specs.Le.{le, le_at}
 use Rattle.le.specs.Memory.{put}
 use Rattle.entry.specs.declared.submission.Submission.{Submission}
-use Rattle.entry.specs.declared.submission.SubmissionRead.{SubmissionRead}
-use Rattle.entry.specs.declared.submission.SubmissionRead.TheVariants.{Entry, Refused}
 
 -- "byte 1 bits 1:0 FUSE, bits 7:6 PSDT", both "taken modulo 4"
 abbrev pub flags : Submission → ℕ
@@ -67,14 +65,14 @@ no_submission =
       cdw15 = 0;
     }
 
-abbrev pub submission_answer : SubmissionRead → ℕ × Submission
-submission_answer (Entry e) = (0, e)
-submission_answer (Refused n) = (n, no_submission)
+abbrev pub submission_answer : Result Submission ℕ → ℕ × Submission
+submission_answer (Ok e) = (0, e)
+submission_answer (Err n) = (n, no_submission)
 
 -- the refusal of the reader on n bytes
 abbrev pub read_refusal : ℕ → ℕ
 read_refusal n = first_match ((ltb n 64, 21) ∷ [])
 
 -- the reader's answer
-unfoldable pub submission_read : List ℕ → SubmissionRead
-submission_read b = settle (read_refusal (length b)) Refused (Entry (submission_at b))
+unfoldable pub submission_read : List ℕ → Result Submission ℕ
+submission_read b = settle (read_refusal (length b)) Err (Ok (submission_at b))

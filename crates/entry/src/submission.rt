@@ -3,7 +3,10 @@ ghost use Rattle.std.specs.Prelude.{◌≡◌, ◌++◌, ◌≤◌, length};
 ghost use Rattle.std.proofs.lemmas.List.Edits.{sets};
 ghost use Rattle.le.specs.Le.{le};
 ghost use Rattle.le.specs.Memory.{put};
-ghost use Rattle.entry.specs.Submission.{submission_bytes, write_refusal, written, submission_answer, read_refusal, submission_read};
+ghost use Rattle.entry.specs.Submission.{flags, submission_bytes, write_refusal, written, submission_answer, read_refusal, submission_read};
+ghost use Rattle.rules.specs.Refusal.{code, by_number};
+
+use rules::refusal::Refusal;
 
 // The fields of an entry. `cdw12_upper` is the upper half of CDW12, bytes 50 to 51; NLB is the lower.
 #[derive(Clone, Copy)]
@@ -24,46 +27,39 @@ pub struct Submission {
     pub cdw15: u32,
 }
 
-// The entry that was read, or the refusal number.
-#[derive(Clone, Copy)]
-pub enum SubmissionRead {
-    Entry(Submission),
-    Refused(u64),
-}
-
 // Stores bytes 0 to 15: OPC, FUSE and PSDT, CID, NSID and zeros.
-fn store_head(buf: &mut [u8], opc: u8, flags: u64, cid: u16, nsid: u32)
+fn store_head(buf: &mut [u8], e: Submission)
     requires { 64 ≤ length buf.old }
-    ensures { buf.new ≡ sets buf.old 0 (le 1 opc ++ le 1 flags ++ le 2 cid ++ le 4 nsid ++ le 8 0) }
+    ensures { buf.new ≡ sets buf.old 0 (le 1 e.opc ++ le 1 (flags e) ++ le 2 e.cid ++ le 4 e.nsid ++ le 8 0) }
 {
-    le::put8(buf, 0, opc as u64);
-    le::put8(buf, 1, flags);
-    le::put16(buf, 2, cid as u64);
-    le::put32(buf, 4, nsid as u64);
+    le::put8(buf, 0, e.opc as u64);
+    le::put8(buf, 1, e.fuse % 4 + 64 * (e.psdt % 4));
+    le::put16(buf, 2, e.cid as u64);
+    le::put32(buf, 4, e.nsid as u64);
     le::put64(buf, 8, 0);
 }
 
 // Stores bytes 16 to 47: MPTR, PRP1, PRP2 and SLBA.
-fn store_pointers(buf: &mut [u8], mptr: u64, prp1: u64, prp2: u64, slba: u64)
+fn store_pointers(buf: &mut [u8], e: Submission)
     requires { 64 ≤ length buf.old }
-    ensures { buf.new ≡ sets buf.old 16 (le 8 mptr ++ le 8 prp1 ++ le 8 prp2 ++ le 8 slba) }
+    ensures { buf.new ≡ sets buf.old 16 (le 8 e.mptr ++ le 8 e.prp1 ++ le 8 e.prp2 ++ le 8 e.slba) }
 {
-    le::put64(buf, 16, mptr);
-    le::put64(buf, 24, prp1);
-    le::put64(buf, 32, prp2);
-    le::put64(buf, 40, slba);
+    le::put64(buf, 16, e.mptr);
+    le::put64(buf, 24, e.prp1);
+    le::put64(buf, 32, e.prp2);
+    le::put64(buf, 40, e.slba);
 }
 
 // Stores bytes 48 to 63: NLB and the rest of CDW12 to CDW15.
-fn store_dwords(buf: &mut [u8], nlb: u16, cdw12_upper: u16, cdw13: u32, cdw14: u32, cdw15: u32)
+fn store_dwords(buf: &mut [u8], e: Submission)
     requires { 64 ≤ length buf.old }
-    ensures { buf.new ≡ sets buf.old 48 (le 2 nlb ++ le 2 cdw12_upper ++ le 4 cdw13 ++ le 4 cdw14 ++ le 4 cdw15) }
+    ensures { buf.new ≡ sets buf.old 48 (le 2 e.nlb ++ le 2 e.cdw12_upper ++ le 4 e.cdw13 ++ le 4 e.cdw14 ++ le 4 e.cdw15) }
 {
-    le::put16(buf, 48, nlb as u64);
-    le::put16(buf, 50, cdw12_upper as u64);
-    le::put32(buf, 52, cdw13 as u64);
-    le::put32(buf, 56, cdw14 as u64);
-    le::put32(buf, 60, cdw15 as u64);
+    le::put16(buf, 48, e.nlb as u64);
+    le::put16(buf, 50, e.cdw12_upper as u64);
+    le::put32(buf, 52, e.cdw13 as u64);
+    le::put32(buf, 56, e.cdw14 as u64);
+    le::put32(buf, 60, e.cdw15 as u64);
 }
 
 // Stores the 64 bytes of an entry.
@@ -71,33 +67,33 @@ fn store(buf: &mut [u8], e: Submission)
     requires { 64 ≤ length buf.old }
     ensures { buf.new ≡ put buf.old 0 (submission_bytes e) }
 {
-    store_head(buf, e.opc, e.fuse % 4 + 64 * (e.psdt % 4), e.cid, e.nsid);
-    store_pointers(buf, e.mptr, e.prp1, e.prp2, e.slba);
-    store_dwords(buf, e.nlb, e.cdw12_upper, e.cdw13, e.cdw14, e.cdw15);
+    store_head(buf, e);
+    store_pointers(buf, e);
+    store_dwords(buf, e);
 }
 
-// Writes an entry into the first 64 bytes of `buf`: 0, or the refusal number.
-pub fn write(buf: &mut [u8], e: Submission) -> u64
-    ensures value { result ≡ write_refusal (length buf.old) }
+// Writes an entry into the first 64 bytes of `buf`.
+pub fn write(buf: &mut [u8], e: Submission) -> Result<(), Refusal>
+    ensures value { code result ≡ write_refusal (length buf.old) }
     ensures buf_after { buf.new ≡ written buf.old e }
 {
     if buf.len() < 64 {
-        return 21;
+        return Err(Refusal::BufferTooShort);
     }
     store(buf, e);
-    0
+    Ok(())
 }
 
 // Reads the entry in the first 64 bytes of `buf`.
-pub fn read(buf: &[u8]) -> SubmissionRead
-    ensures value { result ≡ submission_read buf.now }
-    ensures refusal { (submission_answer result).0 ≡ read_refusal (length buf.now) }
+pub fn read(buf: &[u8]) -> Result<Submission, Refusal>
+    ensures value { by_number result ≡ submission_read buf.now }
+    ensures refusal { (submission_answer (by_number result)).0 ≡ read_refusal (length buf.now) }
 {
     if buf.len() < 64 {
-        return SubmissionRead::Refused(21);
+        return Err(Refusal::BufferTooShort);
     }
     let flags = le::get8(buf, 1);
-    SubmissionRead::Entry(Submission {
+    Ok(Submission {
         opc: le::get8(buf, 0) as u8,
         fuse: flags % 4,
         psdt: flags / 64,

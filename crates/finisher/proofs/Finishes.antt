@@ -2,15 +2,20 @@
 use Prim.Native.Nat.{ℕ, ◌+◌, ◌-◌, ◌*◌, ◌≤◌, ◌<◌}
 use mathlib.Core.Bool.{false}
 use mathlib.Core.List.{List, ◌++◌}
-use mathlib.Core.Path.{◌≡◌, sym, ap, ◌∙◌}
+use mathlib.Core.Path.{◌≡◌, refl, sym, ap, ◌∙◌}
 use native.Mathlib.Nat.{zero-add}
 use native.Mathlib.Omega.{arith}
 use lib.Dec.{ltb, eqb}
 use lib.ListN.{length, set, take, drop, length-drop}
 use lib.Seq.{drop-drop}
 use borrow.Author.Tests.{le-ltb, ltb-false, eq-eqb, ne_eqb}
+use Rattle.std.specs.Prelude.{Result, Ok, Err}
+use Rattle.std.specs.Result.{IsOk}
+use Rattle.rules.specs.Refusal.{number, code}
 use Rattle.rules.specs.Rules.{Table, first_match, settle}
+use Rattle.rules.specs.declared.refusal.Refusal.{Refusal}
 use Rattle.rules.proofs.Cases.{pick_cases}
+use Rattle.rules.proofs.Refusals.{number_not_0}
 use Rattle.rules.proofs.Tables.{Unapplied, passed, append_refused, append_passed}
 use Rattle.rules.proofs.Tests.{not_no}
 use Rattle.bits.specs.Tags.{given_back}
@@ -38,14 +43,27 @@ pub status_to : (n verdict given : ℕ) → verdict ≤ n → given ≤ n → st
 unfolding status_of
 status_to n verdict given v g = pick_cases (λ (k : ℕ). k ≤ n) (eqb verdict 0) given verdict (λ e. g) (λ e. v)
 
--- what the writer leaves in the memory from o on is put in at o
-pub written_put : (m : Memory) (o : ℕ) (e : Completion) (tag : ℕ) {w : List ℕ} → o + 16 ≤ length m → e.status ≤ 32767
-    → w ≡ written (take (length m - o) (drop o m)) e tag
-    → take o m ++ (w ++ drop (length m - o) (drop o m)) ≡ put m o (completion_bytes e tag)
-unfolding written write_refusal settle put
-written_put m o e tag {w} h s f =
-    let room : ltb (length (drop o m)) 16 ≡ false = le-ltb (length (drop o m)) 16 (rw length-drop (omega arith)) in
-    rest_put o m w ∙ rw (f, rest_part, le-ltb 32767 e.status s, room, zero-add (length (completion_bytes e tag)), drop-drop)
+-- the writer of an entry, given the memory from o on
+module _ (m : Memory) (o : ℕ) (e : Completion) (room : o + 16 ≤ length m) (fits : e.status ≤ 32767) where
+  abbrev rest : Memory
+  rest = take (length m - o) (drop o m)
+
+  not_refused : write_refusal (length rest) e.status ≡ 0
+  unfolding write_refusal
+  not_refused =
+      let h : ltb (length (drop o m)) 16 ≡ false = le-ltb (length (drop o m)) 16 (rw length-drop (omega arith)) in
+      rw (rest_part, le-ltb 32767 e.status fits, h) refl
+
+  pub written_ok : (a : Result (Unit {0}) Refusal) → code a ≡ write_refusal (length rest) e.status → IsOk a
+  written_ok (Ok x) f = refl
+  written_ok (Err r) f = absurd (number_not_0 r (f ∙ not_refused))
+
+  -- what it leaves is put in at o
+  pub written_put : (tag : ℕ) {w : List ℕ} → w ≡ written rest e tag
+      → take o m ++ (w ++ drop (length m - o) (drop o m)) ≡ put m o (completion_bytes e tag)
+  unfolding written settle put
+  written_put tag {w} f =
+      rest_put o m w ∙ rw (f, not_refused, rest_part, zero-add (length (completion_bytes e tag)), drop-drop)
 
 -- of a queue that has one entry more, the tail and the phase tag are new
 pub moved : (y d p : CompletionQueue) → y ≡ d → p ≡ posted y
@@ -71,16 +89,16 @@ module _ (c : Controller) (second status : ℕ) where
 abbrev pub queue_of : Controller → ℕ → CompletionQueue
 queue_of c tag = cq_at c (cq_of c tag)
 
--- what is known of a command past the first part of the table
-pub record Postable (c : Controller) (n tag status : ℕ) : Type 0 where
+-- what is known of a command, its queue and its completion queue past the first part of the table
+pub record Postable (k : Command) (x : SubmissionQueue) (y : CompletionQueue) (n tag status : ℕ) : Type 0 where
   pub tag_low : tag < 64
-  pub sq_low : (command_at c tag).sq < 16
-  pub second_low : (command_at c tag).second ≤ 64
-  pub cq_low : cq_of c tag < 16
-  pub ring : RingOk (queue_of c tag).ring
-  pub within : (queue_of c tag).ring.base + 16 * (queue_of c tag).ring.size ≤ n
-  pub phase_low : (queue_of c tag).phase ≤ 1
-  pub status_low : status_of (command_at c tag).verdict status ≤ 32767
+  pub sq_low : k.sq < 16
+  pub second_low : k.second ≤ 64
+  pub cq_low : x.cq < 16
+  pub ring : RingOk y.ring
+  pub within : y.ring.base + 16 * y.ring.size ≤ n
+  pub phase_low : y.phase ≤ 1
+  pub status_low : status_of k.verdict status ≤ 32767
 
 -- the table by its two parts
 module _ (c : Controller) (n tag status : ℕ) where
@@ -90,42 +108,41 @@ module _ (c : Controller) (n tag status : ℕ) where
   abbrev on_posting : Table
   on_posting = posting_rules (command_at c tag) (queue_of c tag).ring
 
-  module _ {k : ℕ} (e : k ≡ first_match on_call) where
-    pub refused_call : (k ≡ 0 → ⊥) → k ≡ finish_refusal c n tag status
+  pub refused_call : (r : Refusal) → number r ≡ first_match on_call → number r ≡ finish_refusal c n tag status
+  unfolding finish_refusal
+  refused_call r e = e ∙ sym (append_refused on_call on_posting (λ z. number_not_0 r (e ∙ z)))
+
+  module _ (e : 0 ≡ first_match on_call) where
+    passed_call : Unapplied on_call
+    passed_call = passed on_call tt (sym e)
+
+    past_call : {l : ℕ} → l ≡ first_match on_posting → l ≡ finish_refusal c n tag status
     unfolding finish_refusal
-    refused_call h = e ∙ sym (append_refused on_call on_posting (λ z. h (e ∙ z)))
+    past_call f = f ∙ sym (append_passed on_call on_posting passed_call)
 
-    module _ (z : k ≡ 0) where
-      passed_call : Unapplied on_call
-      passed_call = passed on_call tt (sym e ∙ z)
-
-      pub past_call : {l : ℕ} → l ≡ first_match on_posting → l ≡ finish_refusal c n tag status
-      unfolding finish_refusal
-      past_call f = f ∙ sym (append_passed on_call on_posting passed_call)
-
-      pub postable : Valid c → Postable c n tag status
-      postable v =
-          let p = passed_call in
-          let o = not_no _ p.1.0 in
-          let k = v.command_ok tag in
-          let y = v.sq_cq (command_at c tag).sq (v.command_sq tag o) in
-          record {
-            tag_low = (out_set _ _ o).0;
-            sq_low = k.sq_low;
-            second_low = k.second_low;
-            cq_low = v.sq_cq_low (command_at c tag).sq;
-            ring = v.cq_ok (cq_of c tag) y;
-            within = ring_inside v p.0 (cq (cq_of c tag)) y;
-            phase_low = v.cq_phase (cq_of c tag);
-            status_low = status_to 32767 _ _ k.verdict_low (ltb-false 32767 status p.1.1.0);
-          }
+    pub postable : Valid c → Postable (command_at c tag) (sq_at c (command_at c tag).sq) (queue_of c tag) n tag status
+    postable v =
+        let p = passed_call in
+        let o = not_no _ p.1.0 in
+        let k = v.command_ok tag in
+        let y = v.sq_cq (command_at c tag).sq (v.command_sq tag o) in
+        record {
+          tag_low = (out_set _ _ o).0;
+          sq_low = k.sq_low;
+          second_low = k.second_low;
+          cq_low = v.sq_cq_low (command_at c tag).sq;
+          ring = v.cq_ok (cq_of c tag) y;
+          within = ring_inside v p.0 (cq (cq_of c tag)) y;
+          phase_low = v.cq_phase (cq_of c tag);
+          status_low = status_to 32767 _ _ k.verdict_low (ltb-false 32767 status p.1.1.0);
+        }
 
 -- ---- what a finish comes to
 
-pub finish_refused : (c : Controller) (m : Memory) (tag status result : ℕ) {n : ℕ} → n ≡ finish_refusal c (length m) tag status
-    → (n ≡ 0 → ⊥) → refusing c m n ≡ perform c m (finish tag status result)
+pub finish_refused : (c : Controller) (m : Memory) (tag status result : ℕ) (r : Refusal)
+    → number r ≡ finish_refusal c (length m) tag status → refusing c m (number r) ≡ perform c m (finish tag status result)
 unfolding finishing.finish
-finish_refused c m tag status result e h = refused c m _ e h
+finish_refused c m tag status result r e = refused c m _ e (number_not_0 r)
 
 -- the command of a tag, its queue and its completion queue, as they were read
 module _ (c : Controller) (tag : ℕ) {k : Command} (ek : k ≡ command_at c tag) {x : SubmissionQueue} (ex : x ≡ sq_at c k.sq)
@@ -136,31 +153,15 @@ module _ (c : Controller) (tag : ℕ) {k : Command} (ek : k ≡ command_at c tag
   y_is : y ≡ queue_of c tag
   y_is = ey ∙ ap (λ (j : SubmissionQueue). cq_at c j.cq) x_is
 
-  pub on_posting_lem : {l : ℕ} → l ≡ first_match (posting_rules k y.ring)
-      → l ≡ first_match (posting_rules (command_at c tag) (queue_of c tag).ring)
-  on_posting_lem e = e ∙ rw (y_is, ek)
+  module _ (n status : ℕ) (e : 0 ≡ first_match (call_rules c n tag status)) where
+    pub read_postable : Valid c → Postable k x y n tag status
+    read_postable v = rw (y_is, x_is, ek) (postable c n tag status e v)
 
-  module _ (n status : ℕ) (p : Postable c n tag status) where
-    pub cq_below : x.cq < 16
-    cq_below = rw x_is p.cq_low
-
-    pub second_below : k.second ≤ 64
-    second_below = rw ek p.second_low
-
-    pub ring_ok : RingOk y.ring
-    ring_ok = rw y_is p.ring
-
-    pub phase_below : y.phase ≤ 1
-    phase_below = rw y_is p.phase_low
-
-    pub within : y.ring.base + 16 * y.ring.size ≤ n
-    within = rw y_is p.within
-
-    pub status_below : {s : ℕ} → s ≡ status_of k.verdict status → s ≤ 32767
-    status_below e = rw (e, ek) p.status_low
+    pub on_posting_lem : {l : ℕ} → l ≡ first_match (posting_rules k y.ring) → l ≡ finish_refusal c n tag status
+    on_posting_lem f = past_call c n tag status e (f ∙ rw (y_is, ek))
 
   -- what the stores come to
-  pub finish_done : (m : Memory) (status result : ℕ) {n : ℕ} → n ≡ finish_refusal c (length m) tag status → n ≡ 0
+  pub finish_done : (m : Memory) (status result : ℕ) → 0 ≡ finish_refusal c (length m) tag status
       → {s : ℕ} {left : Memory} (c2 c3 c4 : Controller) → s ≡ status_of k.verdict status
       → left ≡ put m (y.ring.base + 16 * y.ring.tail)
       (completion_bytes (completion result x.ring.head k.sq k.cid s) y.phase)
@@ -169,4 +170,4 @@ module _ (c : Controller) (tag : ℕ) {k : Command} (ek : k ≡ command_at c tag
       → c4 ≡ with_commands c3 c3.commands (given_back c3.free tag) c3.arbiter
       → outcome (finished (record { slot = y.ring.tail; number = k.number })) c4 left ≡ perform c m (finish tag status result)
   unfolding finishing.finish finished_controller settle
-  finish_done m status result e z c2 c3 c4 es el e2 e3 e4 = rw (e4, e3, e2, el, es, y_is, x_is, ek, ← e, z)
+  finish_done m status result e c2 c3 c4 es el e2 e3 e4 = rw (e4, e3, e2, el, es, y_is, x_is, ek, ← e)

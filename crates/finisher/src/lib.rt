@@ -4,6 +4,7 @@
 ghost use Rattle.std.specs.Prelude.{◌≡◌, ◌+◌, ◌*◌, ◌≤◌, ◌<◌, length};
 ghost use Rattle.rules.specs.Rules.{first_match};
 ghost use Rattle.bits.specs.Tags.{given_back};
+ghost use Rattle.rules.specs.Refusal.{code, by_number};
 ghost use Rattle.le.specs.Memory.{put};
 ghost use Rattle.entry.specs.Completion.{completion, completion_bytes};
 ghost use Rattle.controller.specs.Answers.{outcome};
@@ -16,12 +17,14 @@ ghost use Rattle.store.specs.Held.{held, Sound, Holds, Reached};
 use controller::{Command, CompletionQueue, Finished, Ring};
 use queues::rings::rings_outside;
 use ring::slots::{distance_in, next_phase, next_slot};
+use rules::refusal::Refusal;
 use store::{
     Controller, WORDS, command_at, cq_at, free_of, is_outstanding, put_command, put_cq_tail,
     put_free, sq_at,
 };
 
 // Whether the ring has no free slot.
+#[tactic(auto, unfolding(controller::specs::Finishing::full))]
 fn is_full(r: Ring) -> bool
     requires { RingOk r }
     ensures { result ≡ full r }
@@ -29,37 +32,38 @@ fn is_full(r: Ring) -> bool
     distance_in(r.size as u64, r.head as u64, r.tail as u64) == r.size as u64 - 1
 }
 
-// Why a finish is refused in `n` bytes of memory, whatever its command is: 0, or the refusal number.
-fn call_refusal(state: &[u64; WORDS], n: u64, tag: u64, status: u64) -> u64
-    ensures { result ≡ first_match (call_rules (held state.now) n tag status) }
+// Whether a finish may be asked for in `n` bytes of memory, whatever its command is.
+fn may_finish(state: &[u64; WORDS], n: u64, tag: u64, status: u64) -> Result<(), Refusal>
+    ensures { code result ≡ first_match (call_rules (held state.now) n tag status) }
 {
     if rings_outside(state, n) {
-        return 5;
+        return Err(Refusal::RingOutsideMemory);
     }
     if !is_outstanding(free_of(state), tag) {
-        return 14;
+        return Err(Refusal::NotOutstanding);
     }
     if Controller::LAST_STATUS < status {
-        return 15;
+        return Err(Refusal::StatusTooLarge);
     }
-    0
+    Ok(())
 }
 
-// Why a command cannot be posted to the ring: 0, or the refusal number.
-fn posting_refusal(k: Command, r: Ring) -> u64
+// Whether a command can be posted to the ring.
+fn may_post(k: Command, r: Ring) -> Result<(), Refusal>
     requires { RingOk r }
-    ensures { result ≡ first_match (posting_rules k r) }
+    ensures { code result ≡ first_match (posting_rules k r) }
 {
     if k.first != 0 {
-        return 16;
+        return Err(Refusal::FirstHalfOutstanding);
     }
     if is_full(r) {
-        return 17;
+        return Err(Refusal::NoFreeSlot);
     }
-    0
+    Ok(())
 }
 
 // The verdict if it is not 0, else the status given.
+#[tactic(auto, unfolding(controller::specs::Finishing::status_of))]
 fn status_of(verdict: u16, given: u64) -> u64
     ensures { result ≡ status_of verdict given }
 {
@@ -81,10 +85,12 @@ fn post(memory: &mut [u8], q: CompletionQueue, k: Command, sqhd: u16, status: u6
         k.cid,
         status,
         q.phase as u64,
-    );
+    )
+    .unwrap();
 }
 
 // The queue with one entry more.
+#[tactic(auto, unfolding(controller::specs::Finishing::posted))]
 fn with_posted(q: CompletionQueue) -> CompletionQueue
     requires { RingOk q.ring × (q.phase ≤ 1) }
     ensures { result ≡ posted q }
@@ -94,12 +100,13 @@ fn with_posted(q: CompletionQueue) -> CompletionQueue
     let tail = ring.tail as u64;
     ring.tail = next_slot(size, tail) as u16;
     CompletionQueue {
-        ring: ring,
+        ring,
         phase: next_phase(size, tail, q.phase as u64) as u8,
     }
 }
 
 // A second half whose first half has posted the status.
+#[tactic(auto, unfolding(controller::specs::Finishing::released))]
 fn release(k: Command, status: u64) -> Command
     ensures { result ≡ released status k }
 {
@@ -151,30 +158,24 @@ pub fn finish(
     tag: u64,
     status: u64,
     res: u32,
-) -> Finished
+) -> Result<Finished, Refusal>
     requires { Reached state.old }
-    ensures { Sound state.new × (outcome (of_finished result) (held state.new) memory.new
+    ensures { Sound state.new × (outcome (of_finished (by_number result)) (held state.new) memory.new
         ≡ perform (held state.old) memory.old (finish_call tag status res)) }
 {
-    let refusal = call_refusal(state, memory.len() as u64, tag, status);
-    if refusal != 0 {
-        return Finished::Refused(refusal);
-    }
+    may_finish(state, memory.len() as u64, tag, status)?;
     let k = command_at(state, tag as usize);
     let x = sq_at(state, k.sq as usize);
     let i = x.cq as usize;
     let y = cq_at(state, i);
-    let refusal = posting_refusal(k, y.ring);
-    if refusal != 0 {
-        return Finished::Refused(refusal);
-    }
+    may_post(k, y.ring)?;
     let given = status_of(k.verdict, status);
     post(memory, y, k, x.ring.head, given, res);
     move_on(state, i, y);
     unlink(state, k.second, given);
     give_back(state, tag);
-    Finished::Slot {
+    Ok(Finished {
         slot: y.ring.tail,
         number: k.number,
-    }
+    })
 }

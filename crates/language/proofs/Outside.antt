@@ -29,8 +29,7 @@ use Rattle.language.specs.declared.command.OnPart.{OnPart}
 use Rattle.language.specs.declared.command.OnPart.TheVariants as P
 use Rattle.language.specs.declared.command.Command.{Command}
 use Rattle.language.specs.declared.command.Command.TheVariants as K
-use Rattle.language.specs.declared.vocabulary.Named.{Named}
-use Rattle.language.specs.declared.vocabulary.Named.TheVariants as N
+use Rattle.std.specs.Prelude.{Option, Some, None}
 use Rattle.language.specs.Vocabulary.{form, vocabulary, among, named}
 use Rattle.language.specs.State.{Console, console, lent_memory}
 use Rattle.language.specs.Replies.{Said, say, bad, told, is_good, sentence, texted, Reply, reply}
@@ -113,13 +112,13 @@ obeyed_quiet s K.Peek ns bs =
 obeyed_quiet s K.Walk ns bs = λ h. absurd (true≢false h)
 obeyed_quiet s K.Replay ns bs = λ h. absurd (true≢false h)
 
-asked_quiet : (s : Console) (k : Named) (ws : List (List ℕ)) → Quiet s (asked s k ws)
+asked_quiet : (s : Console) (k : Option Command) (ws : List (List ℕ)) → Quiet s (asked s k ws)
 unfolding asked
-asked_quiet s (N.Command k) ws =
+asked_quiet s (Some k) ws =
     let g = arguments_in (form k).largest (form k).rest ws in
     pick_cases (Quiet s) g.good (obeyed s k g.numbers g.bytes) (bad, s)
     (λ e. obeyed_quiet s k g.numbers g.bytes) (λ e h. (refl, refl))
-asked_quiet s N.Nothing ws = λ h. (refl, refl)
+asked_quiet s None ws = λ h. (refl, refl)
 
 abbrev Rejected : Console → ℕ → Answered → Type 0
 Rejected s n a = a.good ≡ false → (a.text ≡ bad_line n) × (a.refusal ≡ 0) × (a.console ≡ s)
@@ -213,17 +212,17 @@ vocabulary_spelt : all_spelt vocabulary ≡ true
 unfolding vocabulary all_spelt
 vocabulary_spelt = refl
 
-among_printable : (w : List ℕ) (k : Command) (rs : List (String × Command)) → all_spelt rs ≡ true → among w rs ≡ N.Command k
+among_printable : (w : List ℕ) (k : Command) (rs : List (String × Command)) → all_spelt rs ≡ true → among w rs ≡ Some k
     → Each Printable w
 unfolding among all_spelt
 among_printable w k [] h = λ e. let z : ◌≡◌ {A = ℕ} 0 1 = cc in absurd (omega arith)
 among_printable w k (r ∷ rs) h =
     let b = and_true (spelt (bytes r.0)) (all_spelt rs) h in
-    pick_cases (λ (x : Named). x ≡ N.Command k → Each Printable w) (same w (bytes r.0)) (N.Command r.1) (among w rs)
+    pick_cases (λ (x : Option Command). x ≡ Some k → Each Printable w) (same w (bytes r.0)) (Some r.1) (among w rs)
     (λ e f. subst (Each Printable) (sym (same_equal w (bytes r.0) e)) (each_printable (bytes r.0) b.0))
     (λ e. among_printable w k rs b.1)
 
-named_printable : (w : List ℕ) (k : Command) → named w ≡ N.Command k → Each Printable w
+named_printable : (w : List ℕ) (k : Command) → named w ≡ Some k → Each Printable w
 unfolding named
 named_printable w k e = among_printable w k vocabulary vocabulary_spelt e
 
@@ -233,11 +232,12 @@ texted_line : (w : List ℕ) (n : ℕ) → Each NoLf w → (x : Said) → OneLin
 texted_line w n h (say refusal ns bs) = sentence_line w ns bs h
 texted_line w n h bad = bad_line_line n
 
-asked_line : (s : Console) (n : ℕ) (w : List ℕ) (ws : List (List ℕ)) (x : Named) → named w ≡ x → OneLine (texted w n (asked s x ws).0)
+asked_line : (s : Console) (n : ℕ) (w : List ℕ) (ws : List (List ℕ)) (x : Option Command) → named w ≡ x
+    → OneLine (texted w n (asked s x ws).0)
 unfolding asked
-asked_line s n w ws (N.Command k) e =
-    texted_line w n (each_as Printable NoLf printable_plain w (named_printable w k e)) (asked s (N.Command k) ws).0
-asked_line s n w ws N.Nothing e = bad_line_line n
+asked_line s n w ws (Some k) e =
+    texted_line w n (each_as Printable NoLf printable_plain w (named_printable w k e)) (asked s (Some k) ws).0
+asked_line s n w ws None e = bad_line_line n
 
 words_line : (s : Console) (n : ℕ) (ws : List (List ℕ)) → ((ws ≡ []) × ((by_words s n ws).text ≡ []))
     ⊎ ((ws ≡ [] → ⊥) × OneLine (by_words s n ws).text)
@@ -260,15 +260,15 @@ one_answer s n line =
 
 -- ---- bytes that are not printable
 
-asked_printable : (s : Console) (w : List ℕ) (ws : List (List ℕ)) (x : Named) → named w ≡ x → is_good (asked s x ws).0 ≡ true
+asked_printable : (s : Console) (w : List ℕ) (ws : List (List ℕ)) (x : Option Command) → named w ≡ x → is_good (asked s x ws).0 ≡ true
     → EachWord Printable (w ∷ ws)
 unfolding asked
-asked_printable s w ws (N.Command k) e =
+asked_printable s w ws (Some k) e =
     let g = arguments_in (form k).largest (form k).rest ws in
     pick_cases (λ (a : Said × Console). is_good a.0 ≡ true → EachWord Printable (w ∷ ws)) g.good
     (obeyed s k g.numbers g.bytes) (bad, s)
     (λ h f. (named_printable w k e, arguments_good (form k).largest (form k).rest ws h)) (λ h f. absurd (true≢false (sym f)))
-asked_printable s w ws N.Nothing e = λ f. absurd (true≢false (sym f))
+asked_printable s w ws None e = λ f. absurd (true≢false (sym f))
 
 words_printable : (s : Console) (n : ℕ) (ws : List (List ℕ)) → (by_words s n ws).good ≡ true → EachWord Printable ws
 unfolding by_words

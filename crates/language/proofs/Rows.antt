@@ -16,7 +16,7 @@ use Rattle.parse.proofs.Texts.{same_equal}
 use Rattle.language.specs.declared.command.Command.{Command}
 use Rattle.language.specs.declared.command.Command.TheVariants as K
 use Rattle.language.specs.declared.command.Call.TheVariants as C
-use Rattle.language.specs.declared.vocabulary.Named.TheVariants as N
+use Rattle.std.specs.Prelude.{Some, None}
 use Rattle.language.specs.Vocabulary.{vocabulary, among, named}
 use Rattle.language.specs.Words.{joined, no_row, name_of}
 
@@ -67,7 +67,7 @@ module _ (w : List ℕ) (i : ℕ) (h : i < 27) where
   row = rw (add-one i) (ap (among w) (drop-cons vocabulary i no_row (omega (arith, rows))))
 
   -- it is that of the row where the word is the row's, and else that of a row behind it
-  pub row_named : same w (name_of i) ≡ true → among w (drop i vocabulary) ≡ N.Command (get_or vocabulary i no_row).1
+  pub row_named : same w (name_of i) ≡ true → among w (drop i vocabulary) ≡ Some (get_or vocabulary i no_row).1
   unfolding among name_of
   row_named e = row ∙ rw e
 
@@ -83,7 +83,7 @@ pub command_at : (i : ℕ) → get_or commands i (K.Call C.Controller) ≡ (get_
 unfolding commands
 command_at i = get_d_second vocabulary i
 
-pub none_left : (w : List ℕ) → among w (drop 27 vocabulary) ≡ N.Nothing
+pub none_left : (w : List ℕ) → among w (drop 27 vocabulary) ≡ None
 unfolding among vocabulary
 none_left w = refl
 

@@ -1,5 +1,5 @@
 -- The console's language: what a line comes to.
-use Rattle.std.specs.Prelude.{ℕ, Bool, true, List, [], ◌∷◌, ltb, length, drop}
+use Rattle.std.specs.Prelude.{ℕ, Bool, true, List, [], ◌∷◌, ltb, length, drop, Option, Some, None}
 use Rattle.rules.specs.Rules.{pick}
 use Rattle.le.specs.Memory.{Memory}
 use Rattle.controller.specs.Controller.{Controller}
@@ -7,8 +7,6 @@ use Rattle.parse.specs.Line.{words_of, most_bytes}
 use Rattle.parse.specs.Arguments.{arguments_in}
 use Rattle.language.specs.declared.command.Command.{Command}
 use Rattle.language.specs.declared.command.Command.TheVariants as K
-use Rattle.language.specs.declared.vocabulary.Named.{Named}
-use Rattle.language.specs.declared.vocabulary.Named.TheVariants as N
 use Rattle.language.specs.Vocabulary.{form, named}
 use Rattle.language.specs.State.{Console, console, lent_memory, leaving}
 use Rattle.language.specs.Replies.{Said, bad, told, is_good, refusal_of, texted, Reply, reply}
@@ -31,11 +29,11 @@ obeyed s K.Walk ns bs = on_lent s (λ c m. reply (walked m ns) c m)
 obeyed s K.Replay ns bs = on_lent s (λ c m. replayed c m (nth ns 0) bs)
 
 -- "All that is looked at before the call is made": a word that is no command, and words behind it that are not of its form
-unfoldable pub asked : Console → Named → List (List ℕ) → Said × Console
-asked s (N.Command k) ws =
+unfoldable pub asked : Console → Option Command → List (List ℕ) → Said × Console
+asked s (Some k) ws =
     let g = arguments_in (form k).largest (form k).rest ws in
     pick g.good (obeyed s k g.numbers g.bytes) (bad, s)
-asked s N.Nothing ws = (bad, s)
+asked s None ws = (bad, s)
 
 -- the bytes of the answer; whether the line was good, and the number by which a change that it asked for was refused, 0 for none; and
 -- the console afterwards

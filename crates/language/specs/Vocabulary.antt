@@ -1,5 +1,5 @@
 -- The commands: the word of each, and what stands behind it.
-use Rattle.std.specs.Prelude.{ℕ, List, [], ◌∷◌, replicate}
+use Rattle.std.specs.Prelude.{ℕ, List, [], ◌∷◌, replicate, Option, Some, None}
 use Prim.Native.String.{String}
 use Rattle.rules.specs.Rules.{pick}
 use Rattle.print.specs.Text.{bytes}
@@ -14,8 +14,6 @@ use Rattle.language.specs.declared.command.Look.{Look}
 use Rattle.language.specs.declared.command.Look.TheVariants as L
 use Rattle.language.specs.declared.command.Command.{Command}
 use Rattle.language.specs.declared.command.Command.TheVariants as K
-use Rattle.language.specs.declared.vocabulary.Named.{Named}
-use Rattle.language.specs.declared.vocabulary.Named.TheVariants as N
 
 -- ---- the largest values
 
@@ -140,9 +138,9 @@ vocabulary =
     ∷ []
 
 -- the command of the first row that has the word
-unfoldable pub among : List ℕ → List (String × Command) → Named
-among w [] = N.Nothing
-among w (r ∷ rs) = pick (same w (bytes r.0)) (N.Command r.1) (among w rs)
+unfoldable pub among : List ℕ → List (String × Command) → Option Command
+among w [] = None
+among w (r ∷ rs) = pick (same w (bytes r.0)) (Some r.1) (among w rs)
 
-unfoldable pub named : List ℕ → Named
+unfoldable pub named : List ℕ → Option Command
 named w = among w vocabulary

@@ -7,12 +7,6 @@ ghost use Rattle.language.specs.Words.{name_of, joined};
 use crate::command::{Call, Command, Look, OnPart};
 use parse::line::is_same;
 
-#[derive(Clone, Copy)]
-pub enum Named {
-    Command(Command),
-    Nothing,
-}
-
 const COUNT: usize = 27;
 
 // Where each word ends in the text of all of them.
@@ -62,22 +56,20 @@ fn is_at(names: &[u8], i: usize, word: &[u8]) -> bool
 }
 
 // The command that a word names, given the text of all of them.
-fn find(names: &[u8], word: &[u8]) -> Named
+fn find(names: &[u8], word: &[u8]) -> Option<Command>
     requires { names.now ≡ joined }
     ensures { result ≡ v.named word.now }
 {
-    let mut i = 0;
-    while i < COUNT {
+    for i in 0..COUNT {
         if is_at(names, i, word) {
-            return Named::Command(COMMANDS[i]);
+            return Some(COMMANDS[i]);
         }
-        i += 1;
     }
-    Named::Nothing
+    None
 }
 
 // The command that a word names.
-pub fn command_of(word: &[u8]) -> Named
+pub fn command_of(word: &[u8]) -> Option<Command>
     ensures { result ≡ v.named word.now }
 {
     find(

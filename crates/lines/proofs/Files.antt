@@ -1,5 +1,6 @@
 -- The lines that a reader hands out are those of the file, however it is cut into reads. Assumes nothing.
 use Rattle.std.proofs.Common.{◌≡◌, ℕ, ◌<◌, ◌≤◌, List, [], ◌∷◌, ◌++◌, length, take, sym, refl, ap, ◌∙◌, ⊎_elim, append_assoc, arith, length-take, take_all, take-take}
+use Rattle.std.specs.Prelude.{Ok}
 use Rattle.rules.proofs.Tests.{lt_or_ge}
 use Rattle.print.proofs.Puts.{put_length}
 use Rattle.parse.specs.Line.{ended}
@@ -49,15 +50,15 @@ bytes_of (k ∷ ks) = take k.count k.buffer ++ bytes_of ks
 unfoldable pub Reads : Lines → List ℕ → List Chunk → Type 0
 Reads l line [] = l ≡ l
 Reads l line (k ∷ ks) =
-    let m = (filled_by l k.count 0).lines in
+    let m = (filled_by l (Ok k.count)).lines in
     (0 < k.count) × (k.count ≤ chunk_bytes) × Scans k.buffer m line k.scans
     × Reads (after m line k.scans).0 (after m line k.scans).1 ks
 
 -- the lines that are handed out, up to the last, which need not end in LF
 unfoldable pub handed_from : Lines → List ℕ → List Chunk → List (List ℕ)
-handed_from l line [] = handed (filled_by l 0 0) line
+handed_from l line [] = handed (filled_by l (Ok 0)) line
 handed_from l line (k ∷ ks) =
-    let a = after (filled_by l k.count 0).lines line k.scans in
+    let a = after (filled_by l (Ok k.count)).lines line k.scans in
     handed_all k.scans ++ handed_from a.0 a.1 ks
 
 ended_none : (w : List ℕ) → length w ≤ 0 → ended w ≡ []
@@ -68,14 +69,14 @@ ended_some : (w : List ℕ) → 0 < length w → ended w ≡ w ∷ []
 ended_some [] h = absurd (omega arith)
 ended_some (b ∷ w) h = refl
 
-last_line : (l : Lines) (line : List ℕ) → l.held ≤ length line → handed (filled_by l 0 0) line ≡ ended (begun l line)
+last_line : (l : Lines) (line : List ℕ) → l.held ≤ length line → handed (filled_by l (Ok 0)) line ≡ ended (begun l line)
 last_line l line h =
     ⊎_elim
     (λ (k : 0 < l.held).
-    ap (λ (r : Step). handed r line) (filled_last l 0 0 (omega arith) (omega arith) k)
+    ap (λ (r : Step). handed r line) (filled_last l k)
     ∙ sym (ended_some (begun l line) (omega (arith, length-take l.held line))))
     (λ (k : l.held ≤ 0).
-    ap (λ (r : Step). handed r line) (filled_end l 0 0 (omega arith) (omega arith) k)
+    ap (λ (r : Step). handed r line) (filled_end l k)
     ∙ sym (ended_none (begun l line) (omega (arith, length-take l.held line))))
     (lt_or_ge 0 l.held)
 
@@ -98,10 +99,10 @@ from_none w =
 
 -- what a read begins with
 read_begins : (l : Lines) (line : List ℕ) (k : Chunk) → 0 < k.count
-    → (begun (filled_by l k.count 0).lines line ≡ begun l line)
-    × (unread (filled_by l k.count 0).lines k.buffer ≡ take k.count k.buffer)
+    → (begun (filled_by l (Ok k.count)).lines line ≡ begun l line)
+    × (unread (filled_by l (Ok k.count)).lines k.buffer ≡ take k.count k.buffer)
 read_begins l line k h =
-    let q = filled_more l k.count 0 h in
+    let q = filled_more l k.count h in
     (ap (λ (r : Step). begun r.lines line) q, ap (λ (r : Step). unread r.lines k.buffer) q)
 
 reads_hand : (l : Lines) (line : List ℕ) (ks : List Chunk) → Inside l → length line ≡ held_bytes → Reads l line ks
@@ -110,12 +111,12 @@ unfolding Reads handed_from
 reads_hand l line [] i b e =
     last_line l line (omega (arith, i.line)) ∙ sym (from_none (begun l line) ∙ ap ended (kept_begun l line i))
 reads_hand l line (k ∷ ks) i b e =
-    let m = (filled_by l k.count 0).lines in
+    let m = (filled_by l (Ok k.count)).lines in
     let t = after m line k.scans in
     let a = take k.count k.buffer in
     let w = begun l line in
     let r = read_begins l line k e.0 in
-    let s = scans_held k.buffer m line k.scans (filled_inside l k.count 0 refl i e.1).0 b e.2 in
+    let s = scans_held k.buffer m line k.scans (filled_inside l (Ok k.count) refl i e.1).0 b e.2 in
     let j : lines_on w a ≡ handed_all k.scans =
     ap (λ (x : List ℕ). lines_on x a) (sym r.0) ∙ ap (lines_on (begun m line)) (sym r.1)
     ∙ scans_hand k.buffer m line k.scans b e.2 in

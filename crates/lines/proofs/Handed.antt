@@ -9,7 +9,8 @@ use Rattle.lines.specs.Sizes.{held_bytes}
 use Rattle.lines.specs.Texts.{kept, counted, to_lf, lines_on, begun_on}
 use Rattle.lines.specs.Steps.{with_line, without_line, unread, begun, gathered, holding, Scanned, line_found, handed}
 use Rattle.lines.specs.declared.Lines.{Lines}
-use Rattle.lines.specs.declared.Found.TheVariants.{Line, Nothing, End}
+use Rattle.lines.specs.declared.Found.{Found}
+use Rattle.lines.specs.declared.Found.TheVariants.{Line, Nothing, End, Failed}
 use Rattle.lines.specs.declared.Step.{Step}
 use Rattle.lines.proofs.Stepped.{cr_most, gathered_most, line_is, rest_is}
 use Rattle.lines.proofs.Cuts.{text_over, first_line, no_line}
@@ -19,9 +20,16 @@ none_found : (m : Bool) (x : List ℕ) → line_found (pick m Nothing End) x ≡
 none_found true x = refl
 none_found false x = refl
 
-found_none : (m : Bool) → pick m Nothing End ≡ Line → ⊥
+found_none : (m : Bool) {n : ℕ} → pick m Nothing End ≡ Line n → ⊥
 found_none true e = let z : ◌≡◌ {A = ℕ} 0 1 = cc in omega arith
 found_none false e = let z : ◌≡◌ {A = ℕ} 0 1 = cc in omega arith
+
+-- the length of a line that is found
+abbrev length_of : Found → ℕ
+length_of (Line n) = n
+length_of Nothing = 0
+length_of End = 0
+length_of (Failed e) = 0
 
 module _ (l : Lines) (chunk line₀ line₁ : List ℕ) where
   -- a step hands out the first of the lines that are left in the chunk, if there is one, and leaves the others
@@ -74,7 +82,7 @@ module _ (l : Lines) (chunk line₀ line₁ : List ℕ) where
           f.0
               ∙ sym
               (ap (λ (x : List (List ℕ)). x ++ lines_on (take (length g) line₁) (drop (l.read + n) (take l.count chunk)))
-              (none_found l.more (take 0 line₁))
+              (none_found l.more line₁)
               ∙ ap (lines_on (take (length g) line₁)) o ∙ (text_over (take (length g) line₁)).0),
           ap kept f.1 ∙ sym k
               ∙ ap kept (sym (ap (begun_on (take (length g) line₁)) o ∙ (text_over (take (length g) line₁)).1)),
@@ -87,11 +95,11 @@ module _ (l : Lines) (chunk line₀ line₁ : List ℕ) where
         (lt_or_ge n (length (unread l chunk)))
 
     -- the line that has ended stands at the start of the buffer
-    pub scanned_text : r.found ≡ Line → take r.length line₁ ≡ counted (gathered l chunk line₀)
-    scanned_text f =
+    pub scanned_text : {k : ℕ} → r.found ≡ Line k → take k line₁ ≡ counted (gathered l chunk line₀)
+    scanned_text {k} f =
         ⊎_elim
         (λ (h : n < length (unread l chunk)).
-        ap (λ (x : Step). take x.length line₁) (s.answer ∙ line_is l chunk line₀ h) ∙ line_text)
+        ap (λ (x : Found). take (length_of x) line₁) (sym f ∙ ap (λ (x : Step). x.found) (s.answer ∙ line_is l chunk line₀ h)) ∙ line_text)
         (λ (h : length (unread l chunk) ≤ n).
         absurd (found_none l.more (sym (ap (λ (x : Step). x.found) (s.answer ∙ rest_is l chunk line₀ h)) ∙ f)))
         (lt_or_ge n (length (unread l chunk)))

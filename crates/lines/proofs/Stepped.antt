@@ -7,6 +7,7 @@ use Rattle.std.proofs.Common.{
   ◌<◌,
   ◌≤◌,
   Bool,
+  true,
   false,
   not,
   ◌&&◌,
@@ -28,70 +29,61 @@ use Rattle.std.proofs.Common.{
   le-ltb,
   lt-ltb,
 }
+use Rattle.std.specs.Prelude.{Result, Ok, Err, IfOk}
 use Rattle.rules.specs.Rules.{pick}
 use Rattle.rules.proofs.Cases.{pick_cases}
 use Rattle.print.specs.Put.{Put}
 use Rattle.print.proofs.Puts.{put_length}
 use Rattle.print.proofs.Parts.{stands}
 use Rattle.parse.specs.Line.{before, without_cr, most_bytes}
+use Rattle.stream.specs.declared.Errno.{Errno}
 use Rattle.lines.specs.Sizes.{chunk_bytes, held_bytes}
 use Rattle.lines.specs.Inside.{Inside}
 use Rattle.lines.specs.Texts.{kept, to_lf}
-use Rattle.lines.specs.Steps.{with_line, without_line, unread, begun, gathered, holding, scanned, Scanned, chunked, closing, filled_by}
+use Rattle.lines.specs.Steps.{with_line, without_line, unread, begun, gathered, holding, scanned, Short, Scanned, chunked, closing, filled_by}
 use Rattle.lines.specs.declared.Lines.{Lines}
 use Rattle.lines.specs.declared.Found.{Found}
-use Rattle.lines.specs.declared.Found.TheVariants.{Nothing, End, Failed}
+use Rattle.lines.specs.declared.Found.TheVariants.{Nothing, End}
 use Rattle.lines.specs.declared.Step.{Step}
 
 -- ---- the reader stays inside its buffers
 
 abbrev pub Within : Step → Type 0
-Within s = Inside s.lines × (s.length ≤ held_bytes)
-
-without_line_inside : (l : Lines) (f : Found) → Inside l → Within (without_line l f)
-without_line_inside l f i = (i, omega arith)
+Within s = Inside s.lines × Short s.found
 
 with_line_inside : (l : Lines) (n : ℕ) → Inside l → n ≤ held_bytes → Within (with_line l n)
 with_line_inside l n i h = (record { place = i.place; chunk = i.chunk; line = omega arith }, h)
 
 -- ---- on what a read gave
 
-module _ (l : Lines) (n e : ℕ) where
-  pub filled_more : 0 < n → filled_by l n e ≡ without_line (chunked l n l.more) Nothing
+module _ (l : Lines) where
+  pub filled_more : (n : ℕ) → 0 < n → filled_by l (Ok n) ≡ without_line (chunked l n l.more) Nothing
   unfolding filled_by
-  filled_more h = rw (lt-ltb 0 n h)
+  filled_more n h = rw (lt-ltb 0 n h)
 
-  module _ (h : n ≤ 0) where
-    pub filled_failed : 0 < e → filled_by l n e ≡ without_line (chunked l n false) (Failed e)
-    unfolding filled_by
-    filled_failed i = rw (le-ltb 0 n h, lt-ltb 0 e i)
+  pub filled_last : 0 < l.held → filled_by l (Ok 0) ≡ with_line (chunked l 0 false) l.held
+  unfolding filled_by
+  filled_last i = rw (lt-ltb 0 l.held i)
 
-    pub filled_last : e ≤ 0 → 0 < l.held → filled_by l n e ≡ with_line (chunked l n false) l.held
-    unfolding filled_by
-    filled_last i j = rw (le-ltb 0 n h, le-ltb 0 e i, lt-ltb 0 l.held j)
-
-    pub filled_end : e ≤ 0 → l.held ≤ 0 → filled_by l n e ≡ without_line (chunked l n false) End
-    unfolding filled_by
-    filled_end i j = rw (le-ltb 0 n h, le-ltb 0 e i, le-ltb 0 l.held j)
+  pub filled_end : l.held ≤ 0 → filled_by l (Ok 0) ≡ without_line (chunked l 0 false) End
+  unfolding filled_by
+  filled_end i = rw (le-ltb 0 l.held i)
 
 chunked_inside : (l : Lines) (n : ℕ) (m : Bool) → Inside l → n ≤ chunk_bytes → Inside (chunked l n m)
 chunked_inside l n m i h = record { place = omega arith; chunk = h; line = i.line }
 
-closing_inside : (l : Lines) (e : ℕ) → Inside l → Within (closing l e)
-closing_inside l e i =
-    pick_cases Within (ltb 0 e) (without_line l (Failed e)) (pick (ltb 0 l.held) (with_line l l.held) (without_line l End))
-    (λ t. without_line_inside l (Failed e) i)
-    (λ t.
-    pick_cases Within (ltb 0 l.held) (with_line l l.held) (without_line l End) (λ u. with_line_inside l l.held i i.line)
-    (λ u. without_line_inside l End i))
+closing_inside : (l : Lines) → Inside l → Within (closing l)
+closing_inside l i =
+    pick_cases Within (ltb 0 l.held) (with_line l l.held) (without_line l End) (λ t. with_line_inside l l.held i i.line) (λ t. (i, tt))
 
-pub filled_inside : (l : Lines) (n e : ℕ) {r : Step} → r ≡ filled_by l n e → Inside l → n ≤ chunk_bytes → Within r
+pub filled_inside : (l : Lines) (got : Result ℕ Errno) {r : Step} → r ≡ filled_by l got → Inside l → IfOk got (λ n. n ≤ chunk_bytes)
+    → Within r
 unfolding filled_by
-filled_inside l n e q i h =
+filled_inside l (Ok n) q i h =
     subst Within (sym q)
-    (pick_cases Within (ltb 0 n) (without_line (chunked l n l.more) Nothing) (closing (chunked l n false) e)
-    (λ t. without_line_inside (chunked l n l.more) Nothing (chunked_inside l n l.more i h))
-    (λ t. closing_inside (chunked l n false) e (chunked_inside l n false i h)))
+    (pick_cases Within (ltb 0 n) (without_line (chunked l n l.more) Nothing) (closing (chunked l n false))
+    (λ t. (chunked_inside l n l.more i h, tt)) (λ t. closing_inside (chunked l n false) (chunked_inside l n false i h)))
+filled_inside l (Err e) q i h = subst Within (sym q) (chunked_inside l 0 false i (omega arith), tt)
 
 -- ---- in a chunk
 
@@ -119,6 +111,10 @@ module _ (l : Lines) (chunk line : List ℕ) where
       ≡ without_line (holding l (l.read + before 10 (unread l chunk)) (length (gathered l chunk line))) (pick l.more Nothing End)
   unfolding scanned
   rest_is h = rw (le-ltb (before 10 (unread l chunk)) (length (unread l chunk)) h)
+
+none_short : (m : Bool) → Short (pick m Nothing End)
+none_short true = tt
+none_short false = tt
 
 -- what is read of a chunk
 module _ (l : Lines) (chunk : List ℕ) (i : Inside l) (c : length chunk ≡ chunk_bytes) where
@@ -169,8 +165,10 @@ module _ (l : Lines) (chunk : List ℕ) (i : Inside l) (c : length chunk ≡ chu
     pub scanned_rest : (f : Found) {r : Step} → l.count ≤ end → pick l.more Nothing End ≡ f → r ≡ without_line (holding l end held) f
         → Scanned l chunk line₀ line₁ r
     scanned_rest f {r} h k q =
-        let w =
-        without_line_inside (holding l end held) f (record { place = omega (arith, chunk_length); chunk = i.chunk; line = held_most }) in
+        let w : Within (without_line (holding l end held) f) = (
+          record { place = omega (arith, chunk_length); chunk = i.chunk; line = held_most },
+          subst Short k (none_short l.more),
+        ) in
         let v = subst Within (sym q) w in
         record {
           answer = q ∙ ap (λ (x : ℕ). without_line (holding l end x) f) held_is

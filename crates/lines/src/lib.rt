@@ -7,10 +7,11 @@ ghost use Rattle.parse.specs.Line.{before};
 ghost use Rattle.lines.specs.Sizes.{chunk_bytes, held_bytes};
 ghost use Rattle.lines.specs.Inside.{Inside};
 ghost use Rattle.lines.specs.Texts.{kept, to_lf};
-ghost use Rattle.lines.specs.Steps.{no_line, with_line, without_line, filled_by, Scanned};
+ghost use Rattle.lines.specs.Steps.{no_line, with_line, without_line, chunked, closing, filled_by, Scanned};
 
 use parse::line::{MOST_BYTES, find, without_cr};
 use print::put;
+use stream::Errno;
 
 // What is read at once.
 pub const CHUNK_BYTES: usize = 65536;
@@ -29,21 +30,20 @@ pub struct Lines {
     pub more: bool,
 }
 
-// What a step finds: a line that has ended; nothing yet; the end of the file; or an error, by its number.
+// What a step finds: a line that has ended, of so many bytes at the start of its buffer; nothing yet; the end of the file; or an error.
 #[derive(Clone, Copy)]
 pub enum Found {
-    Line,
+    Line(usize),
     Nothing,
     End,
-    Failed(u64),
+    Failed(Errno),
 }
 
-// The lines after a step, what it found, and the length of a line that has ended: 0 where there is none.
+// The lines after a step, and what it found.
 #[derive(Clone, Copy)]
 pub struct Step {
     pub lines: Lines,
     pub found: Found,
-    pub length: usize,
 }
 
 // No line is read yet.
@@ -65,7 +65,6 @@ fn without_line(lines: Lines, found: Found) -> Step
     Step {
         lines: lines,
         found: found,
-        length: 0,
     }
 }
 
@@ -76,8 +75,7 @@ fn with_line(mut lines: Lines, length: usize) -> Step
     lines.held = 0;
     Step {
         lines: lines,
-        found: Found::Line,
-        length: length,
+        found: Found::Line(length),
     }
 }
 
@@ -131,22 +129,34 @@ pub fn scan(mut lines: Lines, chunk: &[u8], line: &mut [u8]) -> Step
     without_line(lines, Found::End)
 }
 
-// What comes of a read into the chunk that gave `count` bytes and, where it gave none, was stopped by an error, 0 for none. At the end of
-// the file a last line without LF counts: what is held of it.
-pub fn filled(mut lines: Lines, count: usize, error: u64) -> Step
-    ensures { result ≡ filled_by lines count error }
+// At the start of a chunk of `count` bytes, behind which more may come or not.
+fn chunked(mut lines: Lines, count: usize, more: bool) -> Lines
+    ensures { result ≡ chunked lines count more }
 {
     lines.read = 0;
     lines.count = count;
-    if count > 0 {
-        return without_line(lines, Found::Nothing);
-    }
-    lines.more = false;
-    if error > 0 {
-        return without_line(lines, Found::Failed(error));
-    }
+    lines.more = more;
+    lines
+}
+
+// At the end of the file a last line without LF counts: what is held of it.
+fn closing(lines: Lines) -> Step
+    ensures { result ≡ closing lines }
+{
     if lines.held > 0 {
         return with_line(lines, lines.held);
     }
     without_line(lines, Found::End)
+}
+
+// What comes of a read into the chunk, which gave so many bytes, none at the end of the file, or was stopped by an error.
+#[tactic(auto, unfolding(crate::specs::Steps::filled_by))]
+pub fn filled(lines: Lines, got: Result<usize, Errno>) -> Step
+    ensures { result ≡ filled_by lines got }
+{
+    match got {
+        Ok(0) => closing(chunked(lines, 0, false)),
+        Ok(count) => without_line(chunked(lines, count, lines.more), Found::Nothing),
+        Err(error) => without_line(chunked(lines, 0, false), Found::Failed(error)),
+    }
 }

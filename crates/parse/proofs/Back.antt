@@ -16,7 +16,7 @@ use Rattle.print.proofs.Texts.{digits_one, digits_more, hex_length}
 use Rattle.parse.specs.Line.{in_word, ended, words_on, words_of, lead}
 use Rattle.parse.specs.Numeral.{digit, digits_of, value_on, number_on, is_hex, number_in}
 use Rattle.parse.specs.Values.{all, and_then, of_each, numbers_in, byte_of, bytes_of, bytes_in}
-use Rattle.parse.specs.declared.number.Number.TheVariants.{Is}
+use Rattle.std.specs.Prelude.{Some}
 use Rattle.parse.proofs.Lines.{words_run}
 use Rattle.parse.proofs.Numerals.{digit_decimal, digit_above, value_decimal, up_to_largest}
 use Rattle.parse.proofs.Reading.{byte_both}
@@ -93,7 +93,7 @@ no_hex (a ∷ b ∷ w) h =
 decimal_written : (n : ℕ) → n < 2 ^ 64 → Written n (decimal n)
 decimal_written n h = written 19 n (omega arith)
 
-pub number_back : (n : ℕ) → n < 2 ^ 64 → number_in (decimal n) ≡ Is n
+pub number_back : (n : ℕ) → n < 2 ^ 64 → number_in (decimal n) ≡ Some n
 unfolding number_on
 number_back n h =
     let x = decimal_written n h in
@@ -177,10 +177,10 @@ module _ (b : ℕ) (h : b < 256) where
   low : digit (hex_digit (b % 16)) ≡ b % 16
   low = hex_digit_back (b % 16) (omega arith)
 
-  byte_back : byte_of (hex_digit (b / 16)) (hex_digit (b % 16)) ≡ Is b
+  byte_back : byte_of (hex_digit (b / 16)) (hex_digit (b % 16)) ≡ Some b
   byte_back =
       byte_both (hex_digit (b / 16)) (hex_digit (b % 16)) (omega (arith, high)) (omega (arith, low))
-      ∙ ap Is (omega (arith, high, low))
+      ∙ ap Some (omega (arith, high, low))
 
 word_back : (bs : List ℕ) → Bytes bs → bytes_of (hex bs) ≡ all bs
 unfolding bytes_of each and_then

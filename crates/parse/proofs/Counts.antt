@@ -11,8 +11,7 @@ use Rattle.parse.specs.Line.{is_blank, in_word, ended, words_on, words_of}
 use Rattle.parse.specs.Numeral.{number_in, up_to}
 use Rattle.parse.specs.Values.{Values, and_then, single, of_each, number_up_to, fixed_in, numbers_in, bytes_of, bytes_in}
 use Rattle.parse.specs.Arguments.{Given, given, rest_in, arguments_in}
-use Rattle.parse.specs.declared.number.Number.{Number}
-use Rattle.parse.specs.declared.number.Number.TheVariants.{Is, Bad}
+use Rattle.std.specs.Prelude.{Option, Some, None}
 use Rattle.parse.specs.declared.arguments.Rest.{Rest}
 use Rattle.parse.specs.declared.arguments.Rest.TheVariants.{Nothing, Numbers, Bytes}
 use Rattle.parse.proofs.Reading.{bytes_most}
@@ -56,9 +55,9 @@ then_most a b =
     pick_cases (λ (v : Values). length v.list ≤ length a.list + length b.list) a.good
     (record { good = b.good; list = a.list ++ b.list }) a (λ e. omega (arith, length-append a.list b.list)) (λ e. omega arith)
 
-single_most : (x : Number) → length (single x).list ≤ 1
-single_most (Is n) = omega arith
-single_most Bad = omega arith
+single_most : (x : Option ℕ) → length (single x).list ≤ 1
+single_most (Some n) = omega arith
+single_most None = omega arith
 
 numbers_few : (m : ℕ) (ws : List (List ℕ)) → length (numbers_in m ws).list ≤ length ws
 unfolding of_each

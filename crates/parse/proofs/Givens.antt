@@ -4,26 +4,69 @@ use mathlib.Core.Bool.{Bool, true, false, true≢false}
 use mathlib.Core.Logic.{⊎_elim}
 use mathlib.Core.List.{List, [], ◌∷◌, ◌++◌}
 use mathlib.Core.Path.{◌≡◌, refl, sym, ap, subst, ◌∙◌}
-use Prim.Native.Nat.{ℕ, zero, suc, ◌≤◌, ◌<◌}
+use Prim.Native.Nat.{ℕ, zero, suc, ◌+◌, ◌≤◌, ◌<◌}
+use native.Mathlib.Nat.{zero-add}
 use native.Mathlib.Omega.{arith}
 use borrow.Author.Tests.{lt-ltb, le-ltb}
-use lib.ListN.{length, drop, get_or}
+use lib.ListN.{length, drop, get_or, length-append}
+use Rattle.rules.specs.Rules.{pick}
 use Rattle.rules.proofs.Cases.{pick_cases}
 use Rattle.rules.proofs.Tests.{lt_or_ge}
 use Rattle.print.proofs.Puts.{put_none, put_then}
+use Rattle.parse.specs.Line.{words_of}
 use Rattle.parse.specs.Numeral.{number_in, up_to}
 use Rattle.parse.specs.Values.{Values, and_then, single, of_each, fixed_in, numbers_in, byte_of, bytes_of, bytes_in, Stored}
-use Rattle.parse.specs.Arguments.{Given, given, is_empty, rest_in, arguments_in, Read}
-use Rattle.parse.specs.declared.number.Number.{Number}
-use Rattle.parse.specs.declared.number.Number.TheVariants.{Is, Bad}
+use Rattle.parse.specs.Arguments.{Given, given, is_empty, rest_in, arguments_in, Fixed, Read}
+use Rattle.std.specs.Prelude.{Option, Some, None}
 use Rattle.parse.specs.declared.arguments.Rest.{Rest}
 use Rattle.parse.specs.declared.arguments.Rest.TheVariants.{Nothing, Numbers, Bytes}
 use Rattle.parse.specs.declared.arguments.Arguments as code
+use Rattle.parse.proofs.Storing.{put_to, is_good, is_bad}
 use Rattle.parse.proofs.Reading.{byte_small}
+
+-- ---- how many numbers there are
+
+record One (x : Option ℕ) (v : Values) : Type 0 where
+  pub number : ℕ
+  pub list : (and_then (single x) v).list ≡ number ∷ v.list
+  pub good : v.good ≡ true
+
+-- a number that is good, and good ones behind it
+one_good : (x : Option ℕ) (v : Values) → (and_then (single x) v).good ≡ true → One x v
+unfolding and_then
+one_good (Some n) v e = record { number = n; list = refl; good = e }
+one_good None v e = absurd (true≢false (sym e))
+
+-- as many numbers as the form has, and as many words at least
+pub fixed_count : (ms : List ℕ) (ws : List (List ℕ)) → (fixed_in ms ws).good ≡ true
+    → (length (fixed_in ms ws).list ≡ length ms) × (length ms ≤ length ws)
+unfolding fixed_in
+fixed_count [] ws e = (refl, omega arith)
+fixed_count (m ∷ ms) [] e = absurd (true≢false (sym e))
+fixed_count (m ∷ ms) (w ∷ ws) e =
+    let o = one_good (up_to m (number_in w)) (fixed_in ms ws) e in
+    let r = fixed_count ms ws o.good in
+    (omega (arith, ap length o.list, r.0), omega (arith, r.1))
 
 -- ---- the code's answer
 
-read_as : {g h : Given} {r : code.Arguments} {n₀ n₁ b₀ b₁ : List ℕ} → h ≡ g → Read g r n₀ n₁ b₀ b₁ → Read h r n₀ n₁ b₀ b₁
+module _ {largest line n₀ n₁ : List ℕ} {place : ℕ} where
+  pub fixed_bad : Stored (fixed_in largest (words_of (drop place line))) n₀ 0 n₁ None → Fixed largest line place n₀ n₁ None
+  fixed_bad s = record { put = put_to s.put (omega arith); judged = sym (is_bad _ _ s.answers); behind = tt }
+
+  pub fixed_good : {count end : ℕ} → Stored (fixed_in largest (words_of (drop place line))) n₀ 0 n₁ (Some count) → end ≤ length line
+      → words_of (drop end line) ≡ drop (length largest) (words_of (drop place line)) → Fixed largest line place n₀ n₁ (Some end)
+  fixed_good s h k = record { put = put_to s.put (omega arith); judged = sym (is_good _ _ s.answers).0; behind = (h, k) }
+
+abbrev pub answer_of : (ℕ → code.Arguments) → Option ℕ → Option code.Arguments
+answer_of f (Some n) = Some (f n)
+answer_of f None = None
+
+answer_picked : (f : ℕ → code.Arguments) (g : Bool) (n : ℕ) → answer_of f (pick g (Some n) None) ≡ pick g (Some (f n)) None
+answer_picked f true n = refl
+answer_picked f false n = refl
+
+read_as : {g h : Given} {r : Option code.Arguments} {n₀ n₁ b₀ b₁ : List ℕ} → h ≡ g → Read g r n₀ n₁ b₀ b₁ → Read h r n₀ n₁ b₀ b₁
 read_as {r = r} {n₀ = n₀} {n₁ = n₁} {b₀ = b₀} {b₁ = b₁} e x = subst (λ (y : Given). Read y r n₀ n₁ b₀ b₁) (sym e) x
 
 module _ (largest : List ℕ) (rest : Rest) (ws : List (List ℕ)) where
@@ -37,81 +80,91 @@ module _ (largest : List ℕ) (rest : Rest) (ws : List (List ℕ)) where
   given_rest e = rw e
 
 -- the fixed numbers are stored
-module _ (largest : List ℕ) (ws : List (List ℕ)) {n₀ n₁ : List ℕ} {count : ℕ} {good : Bool}
-    (s : Stored (fixed_in largest ws) n₀ 0 n₁ count good) (b₀ : List ℕ) where
-  pub read_bad : (rest : Rest) → good ≡ false
-      → Read (arguments_in largest rest ws) (record { good = false; numbers = count; bytes = 0 }) n₀ n₁ b₀ b₀
-  read_bad rest h =
-      read_as (given_bad largest rest ws (sym s.judged ∙ h)) (record { judged = refl; numbers = s.put; bytes = put_none b₀ 0 })
+module _ (largest line : List ℕ) (place : ℕ) where
+  abbrev ws : List (List ℕ)
+  ws = words_of (drop place line)
 
-  module _ (h : good ≡ true) where
-    of_rest : (rest rest₁ : Rest) → rest ≡ rest₁
-        → arguments_in largest rest ws ≡ rest_in rest₁ (fixed_in largest ws).list (drop (length largest) ws)
-    of_rest rest rest₁ e =
-        given_rest largest rest ws (sym s.judged ∙ h)
-        ∙ ap (λ (x : Rest). rest_in x (fixed_in largest ws).list (drop (length largest) ws)) e
+  module _ {n₀ n₁ : List ℕ} (b₀ : List ℕ) where
+    pub read_bad : (rest : Rest) → Fixed largest line place n₀ n₁ None → Read (arguments_in largest rest ws) None n₀ n₁ b₀ b₀
+    read_bad rest s =
+        read_as (given_bad largest rest ws (sym s.judged)) (record { numbers = s.put; bytes = put_none b₀ 0; answers = refl })
 
-    pub read_nothing : (rest : Rest) (t : Bool) → rest ≡ Nothing → t ≡ is_empty (drop (length largest) ws)
-        → Read (arguments_in largest rest ws) (record { good = t; numbers = count; bytes = 0 }) n₀ n₁ b₀ b₀
-    read_nothing rest t e k = read_as (of_rest rest Nothing e) (record { judged = k; numbers = s.put; bytes = put_none b₀ 0 })
+    module _ {end : ℕ} (s : Fixed largest line place n₀ n₁ (Some end)) where
+      of_rest : (rest rest₁ : Rest) → rest ≡ rest₁
+          → arguments_in largest rest ws ≡ rest_in rest₁ (fixed_in largest ws).list (drop (length largest) ws)
+      of_rest rest rest₁ e =
+          given_rest largest rest ws (sym s.judged)
+          ∙ ap (λ (x : Rest). rest_in x (fixed_in largest ws).list (drop (length largest) ws)) e
 
-    pub read_numbers : (rest : Rest) (m : ℕ) {n₂ : List ℕ} {end : ℕ} {g : Bool} → rest ≡ Numbers m
-        → Stored (numbers_in m (drop (length largest) ws)) n₁ count n₂ end g
-        → Read (arguments_in largest rest ws) (record { good = g; numbers = end; bytes = 0 }) n₀ n₂ b₀ b₀
-    read_numbers rest m e t =
-        read_as (of_rest rest (Numbers m) e) (record { judged = t.judged; numbers = put_then s.put t.put; bytes = put_none b₀ 0 })
+      count : length (fixed_in largest ws).list ≡ length largest
+      count = (fixed_count largest ws (sym s.judged)).0
 
-    pub read_bytes : (rest : Rest) {b₁ : List ℕ} {end : ℕ} {g : Bool} → rest ≡ Bytes
-        → Stored (bytes_in (drop (length largest) ws)) b₀ 0 b₁ end g
-        → Read (arguments_in largest rest ws) (record { good = g; numbers = count; bytes = end }) n₀ n₁ b₀ b₁
-    read_bytes rest e t = read_as (of_rest rest Bytes e) (record { judged = t.judged; numbers = s.put; bytes = t.put })
+      pub read_nothing : (rest : Rest) (t : Bool) → rest ≡ Nothing → t ≡ is_empty (words_of (drop end line))
+          → Read (arguments_in largest rest ws) (pick t (Some (record { numbers = length largest; bytes = 0 })) None) n₀ n₁ b₀ b₀
+      read_nothing rest t e k =
+          read_as (of_rest rest Nothing e)
+          (record {
+            numbers = s.put;
+            bytes = put_none b₀ 0;
+            answers =
+                rw (count, k, s.behind.1) refl;
+          })
 
--- ---- how many numbers there are
+      pub read_numbers : (rest : Rest) (m : ℕ) {n₂ : List ℕ} {r : Option ℕ} → rest ≡ Numbers m
+          → Stored (numbers_in m (words_of (drop end line))) n₁ (length largest) n₂ r
+          → Read (arguments_in largest rest ws) (answer_of (λ n. record { numbers = n; bytes = 0 }) r) n₀ n₂ b₀ b₀
+      read_numbers rest m {n₂} {r} e t₀ =
+          let t = rw s.behind.1 at t₀ in
+          let l : length largest + length (numbers_in m (drop (length largest) ws)).list
+          ≡ length ((fixed_in largest ws).list ++ (numbers_in m (drop (length largest) ws)).list) =
+          rw length-append (omega (arith, count)) in
+          read_as (of_rest rest (Numbers m) e)
+          (record {
+            numbers = put_to (put_then (put_to s.put count) t.put) l;
+            bytes = put_none b₀ 0;
+            answers =
+                ap (answer_of (λ n. record { numbers = n; bytes = 0 })) t.answers
+                ∙ answer_picked (λ n. record { numbers = n; bytes = 0 }) _ _
+                ∙ ap (λ n. pick (numbers_in m (drop (length largest) ws)).good (Some (record { numbers = n; bytes = 0 })) None) l;
+          })
 
-record One (x : Number) (v : Values) : Type 0 where
-  pub number : ℕ
-  pub list : (and_then (single x) v).list ≡ number ∷ v.list
-  pub good : v.good ≡ true
-
--- a number that is good, and good ones behind it
-one_good : (x : Number) (v : Values) → (and_then (single x) v).good ≡ true → One x v
-unfolding and_then
-one_good (Is n) v e = record { number = n; list = refl; good = e }
-one_good Bad v e = absurd (true≢false (sym e))
-
--- as many numbers as the form has, and as many words at least
-pub fixed_count : (ms : List ℕ) (ws : List (List ℕ)) → (fixed_in ms ws).good ≡ true
-    → (length (fixed_in ms ws).list ≡ length ms) × (length ms ≤ length ws)
-unfolding fixed_in
-fixed_count [] ws e = (refl, omega arith)
-fixed_count (m ∷ ms) [] e = absurd (true≢false (sym e))
-fixed_count (m ∷ ms) (w ∷ ws) e =
-    let o = one_good (up_to m (number_in w)) (fixed_in ms ws) e in
-    let r = fixed_count ms ws o.good in
-    (omega (arith, ap length o.list, r.0), omega (arith, r.1))
+      pub read_bytes : (rest : Rest) {b₁ : List ℕ} {r : Option ℕ} → rest ≡ Bytes
+          → Stored (bytes_in (words_of (drop end line))) b₀ 0 b₁ r
+          → Read (arguments_in largest rest ws) (answer_of (λ n. record { numbers = length largest; bytes = n }) r) n₀ n₁ b₀ b₁
+      read_bytes rest {b₁} {r} e t₀ =
+          let t = rw s.behind.1 at t₀ in
+          read_as (of_rest rest Bytes e)
+          (record {
+            numbers = s.put;
+            bytes = put_to t.put (omega arith);
+            answers =
+                ap (answer_of (λ n. record { numbers = length largest; bytes = n })) t.answers
+                ∙ answer_picked (λ n. record { numbers = length largest; bytes = n }) _ _
+                ∙ rw (count, zero-add (length (bytes_in (drop (length largest) ws)).list)) refl;
+          })
 
 -- ---- how large they are
 
-up_to_most : (m n : ℕ) (x : Number) → up_to m x ≡ Is n → n ≤ m
-up_to_most m n (Is k) e =
+up_to_most : (m n : ℕ) (x : Option ℕ) → up_to m x ≡ Some n → n ≤ m
+up_to_most m n (Some k) e =
     ⊎_elim
     (λ (h : m < k).
-    let f : Bad ≡ Is n = sym (rw (lt-ltb m k h)) ∙ e in
+    let f : None ≡ Some n = sym (rw (lt-ltb m k h)) ∙ e in
     let z : ◌≡◌ {A = ℕ} 0 1 = cc in
     absurd (omega arith))
     (λ (h : k ≤ m).
-    let f : Is k ≡ Is n = sym (rw (le-ltb m k h)) ∙ e in
+    let f : Some k ≡ Some n = sym (rw (le-ltb m k h)) ∙ e in
     let g : k ≡ n = cc in
     omega arith)
     (lt_or_ge m k)
-up_to_most m n Bad e = let z : ◌≡◌ {A = ℕ} 0 1 = cc in absurd (omega arith)
+up_to_most m n None e = let z : ◌≡◌ {A = ℕ} 0 1 = cc in absurd (omega arith)
 
-one_within : (b : ℕ → ℕ) (x : Number) (v : Values) → ((n : ℕ) → x ≡ Is n → n ≤ b 0) → ((j : ℕ) → get_or v.list j 0 ≤ b (suc j))
+one_within : (b : ℕ → ℕ) (x : Option ℕ) (v : Values) → ((n : ℕ) → x ≡ Some n → n ≤ b 0) → ((j : ℕ) → get_or v.list j 0 ≤ b (suc j))
     → (i : ℕ) → get_or (and_then (single x) v).list i 0 ≤ b i
 unfolding and_then
-one_within b (Is n) v h k zero = h n refl
-one_within b (Is n) v h k (suc i) = k i
-one_within b Bad v h k i = omega arith
+one_within b (Some n) v h k zero = h n refl
+one_within b (Some n) v h k (suc i) = k i
+one_within b None v h k i = omega arith
 
 -- "one above its range" is bad: each number read is at most its largest value
 pub fixed_within : (ms : List ℕ) (ws : List (List ℕ)) (i : ℕ) → get_or (fixed_in ms ws).list i 0 ≤ get_or ms i 0

@@ -1,19 +1,20 @@
 -- Laws of digits and numbers. Assumes nothing.
-use mathlib.Core.Path.{◌≡◌, refl}
+use mathlib.Core.Path.{◌≡◌, refl, ◌∙◌}
 use mathlib.Core.Bool.{Bool, true, false, ◌&&◌}
 use mathlib.Core.List.{List, [], ◌∷◌}
-use Prim.Native.Nat.{ℕ, suc, ◌+◌, ◌-◌, ◌*◌, ◌^◌, ◌/◌, ◌≤◌, ◌<◌}
+use mathlib.Core.Logic.{◌⊎◌, inl, inr, ⊎_elim}
+use Prim.Native.Nat.{ℕ, suc, ◌+◌, ◌-◌, ◌*◌, ◌^◌, ◌≤◌, ◌<◌}
 use native.Mathlib.Numerals.{add-one}
 use native.Mathlib.Omega.{arith}
-use native.Mathlib.Nat.{div-lt_iff_lt-mul, le_trans, mul-le-mul_left}
+use native.Mathlib.Nat.{le_trans, mul-le-mul_left}
 use borrow.Author.Tests.{le-leb, lt-leb, lt-ltb, le-ltb, eq-eqb, ne_eqb, ltb-true}
 use lib.Dec.{ltb, eqb}
 use lib.ListN.{length, drop, get_or, drop_of_length-le}
 use lib.Seq.{drop-cons}
-use Rattle.rules.proofs.Tests.{and_true}
+use Rattle.rules.proofs.Tests.{and_true, lt_or_ge}
 use Rattle.rules.specs.Rules.{pick}
-use Rattle.parse.specs.declared.number.Number.{Number}
-use Rattle.parse.specs.declared.number.Number.TheVariants.{Is, Bad}
+use Rattle.std.specs.Prelude.{Option, Some, None}
+use Rattle.std.specs.Char.{digit_value}
 use Rattle.parse.specs.Numeral.{digit, digits_of, value_on, number_on, is_hex, number_in, up_to}
 
 module _ (b : ℕ) where
@@ -53,6 +54,61 @@ module _ (b : ℕ) where
         lt-leb b 70 (omega arith),
       )
 
+-- std's digits of larger bases too
+module _ (b : ℕ) (h : 71 ≤ b) where
+  large_upper : b < 97 → 16 ≤ digit_value b
+  large_upper k =
+      ⊎_elim
+      (λ (l : b < 91).
+      rw (le-ltb b 48 (omega arith), le-ltb b 58 (omega arith), le-ltb b 65 (omega arith), lt-ltb b 91 l) (omega arith))
+      (λ (l : 91 ≤ b).
+      rw (le-ltb b 48 (omega arith), le-ltb b 58 (omega arith), le-ltb b 65 (omega arith), le-ltb b 91 l, lt-ltb b 97 k) (omega arith))
+      (lt_or_ge b 91)
+
+  large_lower : 103 ≤ b → 16 ≤ digit_value b
+  large_lower k =
+      let e : ltb b 97 ≡ false = le-ltb b 97 (omega arith) in
+      ⊎_elim
+      (λ (l : b < 123).
+      rw (le-ltb b 48 (omega arith), le-ltb b 58 (omega arith), le-ltb b 65 (omega arith), le-ltb b 91 (omega arith), e, lt-ltb b 123 l)
+      (omega arith))
+      (λ (l : 123 ≤ b).
+      rw (le-ltb b 48 (omega arith), le-ltb b 58 (omega arith), le-ltb b 65 (omega arith), le-ltb b 91 (omega arith), e, le-ltb b 123 l)
+      (omega arith))
+      (lt_or_ge b 123)
+
+-- a digit below 16 is what std has
+digits_agree : (b : ℕ) → (digit b ≡ digit_value b) ⊎ ((16 ≤ digit b) × (16 ≤ digit_value b))
+digits_agree b = below 48 (λ h. inr (omega (arith, digit_below b h), rw (lt-ltb b 48 h) (omega arith)))
+    (λ h. below 58 (λ k. inl (digit_decimal b h (omega arith) ∙ rw (le-ltb b 48 h, lt-ltb b 58 k) refl))
+    (λ k. below 65
+    (λ l. inr (omega (arith, digit_between b (omega arith) l), rw (le-ltb b 48 h, le-ltb b 58 k, lt-ltb b 65 l) (omega arith)))
+    (λ l. below 71
+    (λ m.
+    inl
+    (digit_upper b l (omega arith) ∙ rw (le-ltb b 48 h, le-ltb b 58 k, le-ltb b 65 l, lt-ltb b 91 (omega arith)) (omega arith)))
+    (λ m. below 97 (λ n. inr (omega (arith, digit_between2 b (omega arith) n), large_upper b m n))
+    (λ n. below 103
+    (λ o.
+    inl
+    (digit_lower b n (omega arith)
+    ∙ rw (le-ltb b 48 h, le-ltb b 58 k, le-ltb b 65 l, le-ltb b 91 (omega arith), le-ltb b 97 n, lt-ltb b 123 (omega arith))
+    (omega arith)))
+    (λ o. inr (omega (arith, digit_above b (omega arith)), large_lower b m o)))))))
+  where
+    below : {P : Type 0} (n : ℕ) → (b < n → P) → (n ≤ b → P) → P
+    below n f g = ⊎_elim f g (lt_or_ge b n)
+
+-- a digit of a base up to 16
+module _ (base b : ℕ) (h : base ≤ 16) where
+  pub digit_good : digit_value b < base → digit b ≡ digit_value b
+  digit_good k = ⊎_elim (λ e. e) (λ (e : (16 ≤ digit b) × (16 ≤ digit_value b)). absurd (omega (arith, e.1))) (digits_agree b)
+
+  pub digit_bad : (digit_value b < base → ⊥) → base ≤ digit b
+  digit_bad k =
+      ⊎_elim (λ (e : digit b ≡ digit_value b). omega (arith, e)) (λ (e : (16 ≤ digit b) × (16 ≤ digit_value b)). omega (arith, e.0))
+      (digits_agree b)
+
 value_grows : (base v : ℕ) (l : List ℕ) → 1 ≤ base → v ≤ value_on base v l
 unfolding value_on
 value_grows base v [] h = omega arith
@@ -60,16 +116,16 @@ value_grows base v (b ∷ bs) h =
     let k : v * 1 ≤ v * base = mul-le-mul_left v h in
     le_trans (omega (arith, k)) (value_grows base (v * base + digit b) bs h)
 
-pub number_end : (base v : ℕ) (l : List ℕ) (i : ℕ) → length l ≤ i → v < 2 ^ 64 → number_on base v (drop i l) ≡ Is v
+pub number_end : (base v : ℕ) (l : List ℕ) (i : ℕ) → length l ≤ i → v < 2 ^ 64 → number_on base v (drop i l) ≡ Some v
 unfolding number_on value_on digits_of
 number_end base v l i h k = rw (drop_of_length-le l h, lt-ltb v (2 ^ 64) k)
 
-pub number_bad_digit : (base v : ℕ) (l : List ℕ) (i : ℕ) → i < length l → base ≤ digit (get_or l i 0) → number_on base v (drop i l) ≡ Bad
+pub number_bad_digit : (base v : ℕ) (l : List ℕ) (i : ℕ) → i < length l → base ≤ digit (get_or l i 0) → number_on base v (drop i l) ≡ None
 unfolding number_on value_on digits_of
 number_bad_digit base v l i h k = rw (drop-cons l i 0 h, le-ltb (digit (get_or l i 0)) base k)
 
 pub number_too_large : (base v : ℕ) (l : List ℕ) (i : ℕ) → i < length l → 1 ≤ base → 2 ^ 64 ≤ v * base + digit (get_or l i 0)
-    → number_on base v (drop i l) ≡ Bad
+    → number_on base v (drop i l) ≡ None
 unfolding number_on value_on digits_of
 number_too_large base v l i h k m =
     let w = v * base + digit (get_or l i 0) in
@@ -77,7 +133,7 @@ number_too_large base v l i h k m =
     rw (drop-cons l i 0 h, le-ltb (value_on base w (drop (suc i) l)) (2 ^ 64) big)
     (and_false (ltb (digit (get_or l i 0)) base && digits_of base (drop (suc i) l)) _)
   where
-    and_false : (t : Bool) (x : Number) → pick (t && false) x Bad ≡ Bad
+    and_false : (t : Bool) (x : Option ℕ) → pick (t && false) x None ≡ None
     and_false true x = refl
     and_false false x = refl
 
@@ -85,10 +141,6 @@ pub number_more : (base v : ℕ) (l : List ℕ) (i : ℕ) → i < length l → d
     → number_on base v (drop i l) ≡ number_on base (v * base + digit (get_or l i 0)) (drop (i + 1) l)
 unfolding number_on value_on digits_of
 number_more base v l i h k = rw (drop-cons l i 0 h, lt-ltb (digit (get_or l i 0)) base k, add-one i)
-
--- where a value is larger than what the base divides, it is too large
-pub past_most : (base v : ℕ) → 1 ≤ base → 18446744073709551615 / base < v → 2 ^ 64 ≤ v * base
-past_most base v h k = let p : 18446744073709551615 < v * base = (div-lt_iff_lt-mul h).0 k in omega (arith, p)
 
 -- ---- a word
 
@@ -103,7 +155,7 @@ hex_long w e =
     let t = and_true (ltb 2 (length w) && eqb (get_or w 0 0) 48) (eqb (get_or w 1 0) 120) e in
     ltb-true 2 (length w) (and_true (ltb 2 (length w)) (eqb (get_or w 0 0) 48) t.0).0
 
-pub value_none : (w : List ℕ) → length w ≡ 0 → number_in w ≡ Bad
+pub value_none : (w : List ℕ) → length w ≡ 0 → number_in w ≡ None
 unfolding number_in
 value_none w h = rw (eq-eqb (length w) 0 h)
 
@@ -117,13 +169,5 @@ value_decimal w h e = rw (ne_eqb (length w) 0 h, e)
 
 -- ---- a number up to a largest
 
-module _ (m : ℕ) (w : List ℕ) where
-  pub no_number : number_in w ≡ Bad → up_to m (number_in w) ≡ Bad
-  no_number e = rw e
-
-  module _ (n : ℕ) (e : number_in w ≡ Is n) where
-    pub above_largest : m < n → up_to m (number_in w) ≡ Bad
-    above_largest h = rw (e, lt-ltb m n h)
-
-    pub up_to_largest : n ≤ m → up_to m (number_in w) ≡ Is n
-    up_to_largest h = rw (e, le-ltb m n h)
+pub up_to_largest : (m : ℕ) (w : List ℕ) (n : ℕ) → number_in w ≡ Some n → n ≤ m → up_to m (number_in w) ≡ Some n
+up_to_largest m w n e h = rw (e, le-ltb m n h)

@@ -1,7 +1,7 @@
 -- Laws of the values of words: what the next word of a line adds, and how large values are. Assumes nothing.
 use mathlib.Core.Logic.{⊎_elim}
 use mathlib.Core.List.{List, [], ◌∷◌}
-use mathlib.Core.Path.{◌≡◌, sym, ap, ◌∙◌}
+use mathlib.Core.Path.{◌≡◌, refl, sym, ap, ◌∙◌}
 use Prim.Native.Nat.{ℕ, suc, ◌+◌, ◌-◌, ◌*◌, ◌≤◌, ◌<◌}
 use native.Mathlib.Numerals.{add-one}
 use native.Mathlib.Omega.{arith}
@@ -10,12 +10,12 @@ use lib.Dec.{eqb}
 use lib.ListN.{length, take, drop, get_or, drop_of_length-le}
 use lib.Seq.{drop-cons, drop-drop}
 use Rattle.rules.proofs.Tests.{lt_or_ge, same_or_not}
+use Rattle.le.proofs.Parts.{rest_part}
 use Rattle.parse.specs.Line.{words_of, NextWord}
 use Rattle.parse.specs.Numeral.{digit}
 use Rattle.parse.specs.Values.{Values, all, bad, and_then, of_each, single, number_up_to, fixed_in, byte_of, bytes_of}
 use Rattle.parse.specs.Arguments.{is_empty}
-use Rattle.parse.specs.declared.number.Number.{Number}
-use Rattle.parse.specs.declared.number.Number.TheVariants.{Is, Bad}
+use Rattle.std.specs.Prelude.{Option, Some, None}
 use Rattle.parse.proofs.Lines.{words_over, words_next}
 
 -- ---- the words of a line, one after another
@@ -63,56 +63,54 @@ fixed_all ms i ws h = rw (drop_of_length-le ms h)
 -- ---- the bytes of a word
 
 module _ (high low : ℕ) where
-  pub byte_high : 15 < digit high → byte_of high low ≡ Bad
+  pub byte_high : 16 ≤ digit high → byte_of high low ≡ None
   byte_high h = rw (le-ltb (digit high) 16 h)
 
-  pub byte_low : digit high ≤ 15 → 15 < digit low → byte_of high low ≡ Bad
-  byte_low k h = rw (lt-ltb (digit high) 16 (omega arith), le-ltb (digit low) 16 h)
+  pub byte_low : digit high < 16 → 16 ≤ digit low → byte_of high low ≡ None
+  byte_low k h = rw (lt-ltb (digit high) 16 k, le-ltb (digit low) 16 h)
 
-  pub byte_both : digit high ≤ 15 → digit low ≤ 15 → byte_of high low ≡ Is (16 * digit high + digit low)
-  byte_both h k = rw (lt-ltb (digit high) 16 (omega arith), lt-ltb (digit low) 16 (omega arith))
+  pub byte_both : digit high < 16 → digit low < 16 → byte_of high low ≡ Some (16 * digit high + digit low)
+  byte_both h k = rw (lt-ltb (digit high) 16 h, lt-ltb (digit low) 16 k)
 
-  pub byte_small : (n : ℕ) → byte_of high low ≡ Is n → n < 256
+  pub byte_small : (n : ℕ) → byte_of high low ≡ Some n → n < 256
   byte_small n e =
       ⊎_elim
       (λ (h : digit high < 16).
       ⊎_elim
       (λ (k : digit low < 16).
-      let f : Is (16 * digit high + digit low) ≡ Is n = sym (byte_both (omega arith) (omega arith)) ∙ e in
+      let f : Some (16 * digit high + digit low) ≡ Some n = sym (byte_both h k) ∙ e in
       let g : 16 * digit high + digit low ≡ n = cc in
       omega arith)
-      (λ (k : 16 ≤ digit low). none (sym (byte_low (omega arith) k) ∙ e))
+      (λ (k : 16 ≤ digit low). none (sym (byte_low h k) ∙ e))
       (lt_or_ge (digit low) 16))
       (λ (h : 16 ≤ digit high). none (sym (byte_high h) ∙ e))
       (lt_or_ge (digit high) 16)
     where
-      none : Bad ≡ Is n → n < 256
+      none : None ≡ Some n → n < 256
       none f = let z : ◌≡◌ {A = ℕ} 0 1 = cc in absurd (omega arith)
 
-module _ (w : List ℕ) (i : ℕ) where
-  pub bytes_over : length w ≤ i → bytes_of (drop i w) ≡ all []
-  unfolding bytes_of
-  bytes_over h = rw (drop_of_length-le w h)
+pub bytes_over : (w : List ℕ) → length w ≡ 0 → bytes_of w ≡ all []
+unfolding bytes_of
+bytes_over [] h = refl
+bytes_over (b ∷ w) h = absurd (omega arith)
 
-  pub bytes_odd : i < length w → length w - i < 2 → bytes_of (drop i w) ≡ bad
-  unfolding bytes_of
-  bytes_odd h k =
-      let l : length w ≤ suc i = omega arith in
-      rw (drop-cons w i 0 h, drop_of_length-le w l)
+pub bytes_odd : (w : List ℕ) → (length w ≡ 0 → ⊥) → length w < 2 → bytes_of w ≡ bad
+unfolding bytes_of
+bytes_odd [] h k = absurd (h refl)
+bytes_odd (b ∷ []) h k = refl
+bytes_odd (high ∷ low ∷ w) h k = absurd (omega arith)
 
-  pub bytes_next : 2 ≤ length w - i
-      → bytes_of (drop i w) ≡ and_then (single (byte_of (get_or w i 0) (get_or w (i + 1) 0))) (bytes_of (drop (i + 2) w))
-  unfolding bytes_of
-  bytes_next h =
-      let l : i < length w = omega arith in
-      let m : suc i < length w = omega arith in
-      let n : i + 2 ≡ suc (suc i) = omega arith in
-      rw (drop-cons w i 0 l, drop-cons w (suc i) 0 m, n, add-one i)
+pub bytes_next : (w : List ℕ) → 2 ≤ length w
+    → bytes_of w ≡ and_then (single (byte_of (get_or w 0 0) (get_or w 1 0))) (bytes_of (take (length w - 2) (drop 2 w)))
+unfolding bytes_of
+bytes_next [] h = absurd (omega arith)
+bytes_next (b ∷ []) h = absurd (omega arith)
+bytes_next (high ∷ low ∷ w) h = rw (rest_part 2 (high ∷ low ∷ w)) refl
 
-one_most : (x : Number) (v : Values) (n : ℕ) → 2 * length v.list ≤ n → 2 * length (and_then (single x) v).list ≤ suc (suc n)
+one_most : (x : Option ℕ) (v : Values) (n : ℕ) → 2 * length v.list ≤ n → 2 * length (and_then (single x) v).list ≤ suc (suc n)
 unfolding and_then
-one_most (Is k) v n h = omega arith
-one_most Bad v n h = omega arith
+one_most (Some k) v n h = omega arith
+one_most None v n h = omega arith
 
 pub bytes_most : (w : List ℕ) → 2 * length (bytes_of w).list ≤ length w
 unfolding bytes_of

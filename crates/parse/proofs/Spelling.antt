@@ -16,8 +16,7 @@ use Rattle.parse.specs.Line.{is_blank, in_word, ended, words_on, words_of, lead,
 use Rattle.parse.specs.Numeral.{digit, digits_of, value_on, number_on, is_hex, number_in, up_to}
 use Rattle.parse.specs.Values.{Values, and_then, single, of_each, number_up_to, fixed_in, byte_of, bytes_of}
 use Rattle.parse.specs.Arguments.{rest_in, arguments_in}
-use Rattle.parse.specs.declared.number.Number.{Number}
-use Rattle.parse.specs.declared.number.Number.TheVariants.{Is, Bad}
+use Rattle.std.specs.Prelude.{Option, Some, None}
 use Rattle.parse.specs.declared.arguments.Rest.{Rest}
 use Rattle.parse.specs.declared.arguments.Rest.TheVariants.{Nothing, Numbers, Bytes}
 use Rattle.parse.proofs.Numerals.{digit_below, digit_above, hex_long}
@@ -150,18 +149,18 @@ digits_each base (b ∷ w) h e =
 
 -- ---- numbers and bytes
 
-number_digits : (base n : ℕ) (w : List ℕ) → number_on base 0 w ≡ Is n → digits_of base w ≡ true
+number_digits : (base n : ℕ) (w : List ℕ) → number_on base 0 w ≡ Some n → digits_of base w ≡ true
 unfolding number_on
 number_digits base n w =
-    pick_cases (λ (x : Number). x ≡ Is n → digits_of base w ≡ true) (digits_of base w && ltb (value_on base 0 w) 18446744073709551616)
-    (Is (value_on base 0 w)) Bad (λ e f. (and_true (digits_of base w) _ e).0)
+    pick_cases (λ (x : Option ℕ). x ≡ Some n → digits_of base w ≡ true) (digits_of base w && ltb (value_on base 0 w) 18446744073709551616)
+    (Some (value_on base 0 w)) None (λ e f. (and_true (digits_of base w) _ e).0)
     (λ e f. let z : ◌≡◌ {A = ℕ} 0 1 = cc in absurd (omega arith))
 
-printable_digits : (base n : ℕ) (w : List ℕ) → base ≤ 16 → number_on base 0 w ≡ Is n → Each Printable w
+printable_digits : (base n : ℕ) (w : List ℕ) → base ≤ 16 → number_on base 0 w ≡ Some n → Each Printable w
 printable_digits base n w h e =
     each_as (λ b. digit b < 16) Printable digit_printable w (digits_each base w h (number_digits base n w e))
 
-hex_each : (n : ℕ) (w : List ℕ) → is_hex w ≡ true → number_on 16 0 (drop 2 w) ≡ Is n → Each Printable w
+hex_each : (n : ℕ) (w : List ℕ) → is_hex w ≡ true → number_on 16 0 (drop 2 w) ≡ Some n → Each Printable w
 hex_each n [] h e = absurd (omega (arith, hex_long [] h))
 hex_each n (a ∷ []) h e = absurd (omega (arith, hex_long (a ∷ []) h))
 hex_each n (a ∷ b ∷ w) h e =
@@ -171,21 +170,21 @@ hex_each n (a ∷ b ∷ w) h e =
     let y = eqb-true b 120 p.1 in
     ((omega (arith, x), omega (arith, x)), ((omega (arith, y), omega (arith, y)), printable_digits 16 n w (omega arith) e))
 
-number_each : (w : List ℕ) (n : ℕ) → number_in w ≡ Is n → Each Printable w
+number_each : (w : List ℕ) (n : ℕ) → number_in w ≡ Some n → Each Printable w
 unfolding number_in
 number_each w n =
-    pick_cases (λ (x : Number). x ≡ Is n → Each Printable w) (eqb (length w) 0) Bad
+    pick_cases (λ (x : Option ℕ). x ≡ Some n → Each Printable w) (eqb (length w) 0) None
     (pick (is_hex w) (number_on 16 0 (drop 2 w)) (number_on 10 0 w)) (λ e f. let z : ◌≡◌ {A = ℕ} 0 1 = cc in absurd (omega arith))
     (λ e.
-    pick_cases (λ (x : Number). x ≡ Is n → Each Printable w) (is_hex w) (number_on 16 0 (drop 2 w)) (number_on 10 0 w)
+    pick_cases (λ (x : Option ℕ). x ≡ Some n → Each Printable w) (is_hex w) (number_on 16 0 (drop 2 w)) (number_on 10 0 w)
     (λ h f. hex_each n w h f) (λ h f. printable_digits 10 n w (omega arith) f))
 
 number_good : (m : ℕ) (w : List ℕ) → (number_up_to m w).good ≡ true → Each Printable w
 number_good m w = go (number_in w) refl
   where
-    go : (x : Number) → number_in w ≡ x → (single (up_to m x)).good ≡ true → Each Printable w
-    go (Is n) e h = number_each w n e
-    go Bad e h = absurd (true≢false (sym h))
+    go : (x : Option ℕ) → number_in w ≡ x → (single (up_to m x)).good ≡ true → Each Printable w
+    go (Some n) e h = number_each w n e
+    go None e h = absurd (true≢false (sym h))
 
 then_good : (a b : Values) → (and_then a b).good ≡ true → (a.good ≡ true) × (b.good ≡ true)
 unfolding and_then
@@ -195,8 +194,8 @@ then_good a b =
 
 byte_good : (high low : ℕ) → (single (byte_of high low)).good ≡ true → (digit high < 16) × (digit low < 16)
 byte_good high low =
-    pick_cases (λ (x : Number). (single x).good ≡ true → (digit high < 16) × (digit low < 16)) (ltb (digit high) 16 && ltb (digit low) 16)
-    (Is (16 * digit high + digit low)) Bad
+    pick_cases (λ (x : Option ℕ). (single x).good ≡ true → (digit high < 16) × (digit low < 16)) (ltb (digit high) 16 && ltb (digit low) 16)
+    (Some (16 * digit high + digit low)) None
     (λ e f.
     let r = and_true (ltb (digit high) 16) (ltb (digit low) 16) e in
     (ltb-true (digit high) 16 r.0, ltb-true (digit low) 16 r.1))

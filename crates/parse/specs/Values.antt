@@ -1,10 +1,8 @@
 -- Values that are read from words, one after another, up to the first that is bad.
-use Rattle.std.specs.Prelude.{ℕ, ◌+◌, ◌*◌, Bool, true, false, ◌&&◌, List, [], ◌∷◌, ◌++◌, ◌≡◌, ltb}
+use Rattle.std.specs.Prelude.{ℕ, ◌+◌, ◌*◌, Bool, true, false, ◌&&◌, List, [], ◌∷◌, ◌++◌, ◌≡◌, ltb, length, Option, Some, None}
 use Rattle.rules.specs.Rules.{pick}
 use Rattle.print.specs.Put.{Put}
 use Rattle.parse.specs.Numeral.{digit, number_in, up_to}
-use Rattle.parse.specs.declared.number.Number.{Number}
-use Rattle.parse.specs.declared.number.Number.TheVariants.{Is, Bad}
 
 -- the values before the first that is bad, and whether none is
 pub record Values : Type 0 where
@@ -26,9 +24,9 @@ unfoldable pub of_each : (List ℕ → Values) → List (List ℕ) → Values
 of_each f [] = all []
 of_each f (w ∷ ws) = and_then (f w) (of_each f ws)
 
-abbrev pub single : Number → Values
-single (Is n) = all (n ∷ [])
-single Bad = bad
+abbrev pub single : Option ℕ → Values
+single (Some n) = all (n ∷ [])
+single None = bad
 
 -- the number of a word, up to a largest
 abbrev pub number_up_to : ℕ → List ℕ → Values
@@ -45,8 +43,8 @@ abbrev pub numbers_in : ℕ → List (List ℕ) → Values
 numbers_in m ws = of_each (number_up_to m) ws
 
 -- the byte that two digits write
-abbrev pub byte_of : ℕ → ℕ → Number
-byte_of high low = pick (ltb (digit high) 16 && ltb (digit low) 16) (Is (16 * digit high + digit low)) Bad
+abbrev pub byte_of : ℕ → ℕ → Option ℕ
+byte_of high low = pick (ltb (digit high) 16 && ltb (digit low) 16) (Some (16 * digit high + digit low)) None
 
 -- the bytes of a word: "two hexadecimal digits of either case for each byte, without `0x`"
 unfoldable pub bytes_of : List ℕ → Values
@@ -58,7 +56,7 @@ bytes_of (high ∷ low ∷ w) = and_then (single (byte_of high low)) (bytes_of w
 abbrev pub bytes_in : List (List ℕ) → Values
 bytes_in ws = of_each bytes_of ws
 
--- what the code leaves of them in a buffer, from a place on, with the place after the last and its verdict
-pub record Stored (v : Values) (before : List ℕ) (place : ℕ) (after : List ℕ) (end : ℕ) (good : Bool) : Type 0 where
-  pub judged : good ≡ v.good
-  pub put : Put before place v.list after end
+-- what the code leaves of them in a buffer, from a place on, and its answer: the place after the last where none is bad
+pub record Stored (v : Values) (before : List ℕ) (place : ℕ) (after : List ℕ) (answer : Option ℕ) : Type 0 where
+  pub put : Put before place v.list after (place + length v.list)
+  pub answers : answer ≡ pick v.good (Some (place + length v.list)) None

@@ -1,5 +1,5 @@
 // A line and its words.
-ghost use Rattle.std.specs.Prelude.{◌≡◌, ◌+◌, ◌≤◌, length, drop};
+ghost use Rattle.std.specs.Prelude.{ℕ, Bool, ◌≡◌, ◌+◌, ◌≤◌, length, drop};
 ghost use Rattle.parse.specs.Line.{is_blank, in_word, lead, before, NextWord, without_cr, same};
 
 // The longest line, without its LF.
@@ -24,32 +24,19 @@ fn is_in_word(b: u8) -> bool
     !is_blank(b) & (b != b'#')
 }
 
-fn past_blanks(line: &[u8], at: usize) -> usize
-    requires { at ≤ length line.now }
-    ensures { (result ≡ at + lead is_blank (drop at line.now)) × (result ≤ length line.now) }
+// The place of the first byte of a text, from `at` on, that does not pass a test; the text's end where each of them does.
+fn past<F: Fn(u8) -> bool>(text: &[u8], at: usize, passes: F) -> usize
+    requires inside { at ≤ length text.now }
+    requires test { F.IsAlwaysCallable passes }
+    ensures value { (p : ℕ → Bool) → ((b : ℕ) (t : Bool) → F.post passes b t → t ≡ p b) → result ≡ at + lead p (drop at text.now) }
+    ensures within { result ≤ length text.now }
 {
-    let mut i = at;
-    while i < line.len() {
-        if !is_blank(line[i]) {
+    for i in at..text.len() {
+        if !passes(text[i]) {
             return i;
         }
-        i += 1;
     }
-    i
-}
-
-fn past_word(line: &[u8], at: usize) -> usize
-    requires { at ≤ length line.now }
-    ensures { (result ≡ at + lead in_word (drop at line.now)) × (result ≤ length line.now) }
-{
-    let mut i = at;
-    while i < line.len() {
-        if !is_in_word(line[i]) {
-            return i;
-        }
-        i += 1;
-    }
-    i
+    text.len()
 }
 
 // The next word of a line, from `at` on.
@@ -57,10 +44,10 @@ pub fn next_word(line: &[u8], at: usize) -> Word
     requires { at ≤ length line.now }
     ensures { NextWord line.now at result.start result.end }
 {
-    let start = past_blanks(line, at);
+    let start = past(line, at, is_blank);
     Word {
         start: start,
-        end: past_word(line, start),
+        end: past(line, start, is_in_word),
     }
 }
 
@@ -69,14 +56,7 @@ pub fn find(text: &[u8], at: usize, b: u8) -> usize
     requires { at ≤ length text.now }
     ensures { (result ≡ at + before b (drop at text.now)) × (result ≤ length text.now) }
 {
-    let mut i = at;
-    while i < text.len() {
-        if text[i] == b {
-            return i;
-        }
-        i += 1;
-    }
-    i
+    past(text, at, |x| x != b)
 }
 
 // How many bytes of a line that ended in LF count: not the one CR that may stand before it.
@@ -100,15 +80,5 @@ pub fn without_cr(line: &[u8]) -> usize
 pub fn is_same(a: &[u8], b: &[u8]) -> bool
     ensures { result ≡ same a.now b.now }
 {
-    if a.len() != b.len() {
-        return false;
-    }
-    let mut i = 0;
-    while i < a.len() {
-        if a[i] != b[i] {
-            return false;
-        }
-        i += 1;
-    }
-    true
+    a == b
 }

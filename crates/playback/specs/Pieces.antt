@@ -1,11 +1,11 @@
 -- The pieces of a trace, as they are read.
-use Rattle.std.specs.Prelude.{ℕ, ◌+◌, ◌-◌, ◌%◌, ◌^◌, nat_lt}
+use Rattle.std.specs.Prelude.{ℕ, ◌+◌, ◌-◌, ◌%◌, ◌^◌, is_some}
 use Rattle.rules.specs.Rules.{pick}
-use Rattle.stream.specs.declared.Input.{Input}
+use Rattle.stream.specs.declared.Filled.{Filled}
 
 -- how many bytes of what was read are replayed: where an error stopped it, whole records only
-abbrev pub taken_of : Input → ℕ
-taken_of i = pick (nat_lt 0 i.error) (i.count - i.count % 16) i.count
+abbrev pub taken_of : Filled → ℕ
+taken_of f = pick (is_some f.error) (f.count - f.count % 16) f.count
 
 -- the number of the record that comes after n and m more, in 64 bits
 abbrev pub number_after : ℕ → ℕ → ℕ

@@ -3,6 +3,7 @@ ghost use Rattle.std.specs.Prelude.{◌≤◌};
 
 use std::fmt::Display;
 use std::io::{Cursor, Error, Write};
+use stream::Errno;
 
 // The room for the system's words for an error, and for its number behind them.
 const REASON_BYTES: usize = 320;
@@ -42,9 +43,9 @@ pub(super) fn say_argument(rt: &impl Eprint, error: Error) {
     say(rt, "playback: path", error);
 }
 
-// Of a read or a write that failed: what it was, the line or the record that it failed at, and the number of the error.
-pub(super) fn say_at(rt: &impl Eprint, what: &str, number: u64, error: u64) {
-    let code = i32::try_from(error).unwrap_or(i32::MAX);
+// Of a read or a write that failed: what it was, the line or the record that it failed at, and the error.
+pub(super) fn say_at(rt: &impl Eprint, what: &str, number: u64, error: Errno) {
+    let code = i32::try_from(error.number).unwrap_or(i32::MAX);
     say(
         rt,
         format_args!("{what} {number}"),

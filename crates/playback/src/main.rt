@@ -4,7 +4,7 @@
 
 use crate::fault::{say_argument, say_at, say_bad, say_path};
 use language::sizes::MEMORY_BYTES;
-use setup::Ended;
+use setup::Fault;
 use std::env::{Env, FillError};
 use std::fs;
 use std::fs::Files;
@@ -57,37 +57,27 @@ fn open<R: Env + Files + Eprint>(rt: &R, i: usize) -> Option<R::File> {
     None
 }
 
-// Whether a set-up is made; says why it is not.
-fn is_made(rt: &impl Eprint, ended: Ended) -> bool {
-    match ended {
-        Ended::Made => return true,
-        Ended::Bad(line) => say_bad(rt, line),
-        Ended::Unread { line, error } => say_at(rt, "playback: setup, line", line, error),
-        Ended::Unwritten { line, error } => say_at(
+// Says why no set-up is made.
+fn say_fault(rt: &impl Eprint, fault: Fault) {
+    match fault {
+        Fault::Bad(line) => say_bad(rt, line),
+        Fault::Unread { line, error } => say_at(rt, "playback: setup, line", line, error),
+        Fault::Unwritten { line, error } => say_at(
             rt,
             "playback: standard output, setup line",
             line,
             error,
         ),
     }
-    false
 }
 
 fn run(rt: &impl Eprint, output: &mut impl Write, setup: &mut impl Read, trace: &mut impl Read) {
     let mut memory = [0u8; MEMORY_BYTES];
     let fresh = Controller::new(0, 0);
     let mut controller = fresh.controller;
-    let s = setup::run(setup, output, &mut controller.words, &mut memory);
-    let ended = s.ended;
-    if is_made(rt, ended) {
-        play::run(
-            rt,
-            trace,
-            output,
-            &mut controller.words,
-            &mut memory,
-            s.lent,
-        );
+    match setup::run(setup, output, &mut controller.words, &mut memory) {
+        Ok(lent) => play::run(rt, trace, output, &mut controller.words, &mut memory, lent),
+        Err(fault) => say_fault(rt, fault),
     }
 }
 

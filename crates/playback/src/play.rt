@@ -10,17 +10,24 @@ use language::sizes::MEMORY_BYTES;
 use replay::replay;
 use std::io::{Read, Write};
 use store::WORDS;
-use stream::Input;
+use stream::Filled;
 use trace::RECORD_BYTES;
 use transcript::piece::{PIECE_BYTES, ROOM_BYTES, put_piece};
 use transcript::summary::{Tally, put_summary};
 
-// The records so far, whether more are left, and whether nothing has stopped it.
+// How far it is: more records are left; all are replayed; or something has stopped it.
+#[derive(Clone, Copy, PartialEq, Eq)]
+enum Stage {
+    Open,
+    Ended,
+    Stopped,
+}
+
+// The records so far, and how far it is.
 #[derive(Clone, Copy)]
 struct Play {
     tally: Tally,
-    open: bool,
-    good: bool,
+    stage: Stage,
 }
 
 // The number of the record that comes after so many and so many more.
@@ -34,8 +41,7 @@ fn after(records: u64, more: u64) -> u64
 fn is_written(rt: &impl Eprint, output: &mut impl Write, out: &[u8], n: usize, records: u64) -> bool
     requires { n ≤ length out.now }
 {
-    let error = stream::write(output, &out[..n]);
-    if error > 0 {
+    if let Err(error) = stream::write(output, &out[..n]) {
         say_at(
             rt,
             "playback: standard output, record",
@@ -58,42 +64,39 @@ fn print_piece(
 ) -> Play
     requires { (length trace.now ≤ 4096) × (4096 ≡ length answers.now) × (65536 ≡ length out.old) }
 {
-    let tally = s.tally;
-    let piece = put_piece(out, tally, trace, answers);
-    let next = piece.tally;
-    let written = is_written(rt, output, out, piece.end, tally.records);
+    let piece = put_piece(out, s.tally, trace, answers);
+    let written = is_written(rt, output, out, piece.end, s.tally.records);
     Play {
-        tally: next,
-        open: s.open,
-        good: s.good & written,
+        tally: piece.tally,
+        stage: if written { s.stage } else { Stage::Stopped },
     }
 }
 
-// How many bytes of the input are taken: where an error stopped it, whole records only.
-fn taken(input: Input) -> usize
-    ensures { (result ≡ taken_of input) × (result ≤ input.count) }
+// How many bytes of what was read are taken: where an error stopped it, whole records only.
+fn taken(got: Filled) -> usize
+    ensures { (result ≡ taken_of got) × (result ≤ got.count) }
 {
-    if input.error > 0 {
-        return input.count - input.count % RECORD_BYTES;
+    if got.error.is_some() {
+        return got.count - got.count % RECORD_BYTES;
     }
-    input.count
+    got.count
 }
 
-// Looks at what was read: it goes on where the piece is full.
-fn after_read(rt: &impl Eprint, mut s: Play, input: Input) -> Play {
-    let tally = s.tally;
-    if input.error > 0 {
+// Looks at what was read, behind so many records: it goes on where the piece is full.
+fn after_read(rt: &impl Eprint, records: u64, got: Filled) -> Stage {
+    if let Some(error) = got.error {
         say_at(
             rt,
             "playback: trace, record",
-            after(tally.records, (input.count / RECORD_BYTES) as u64),
-            input.error,
+            after(records, (got.count / RECORD_BYTES) as u64),
+            error,
         );
-        s.good = false;
-        return s;
+        return Stage::Stopped;
     }
-    s.open = input.count == PIECE_BYTES;
-    s
+    if got.count < PIECE_BYTES {
+        return Stage::Ended;
+    }
+    Stage::Open
 }
 
 // Replays a piece on the memory that is lent, and prints its records.
@@ -112,7 +115,7 @@ fn played(
     requires value { (4096 ≡ length answers.old) × (65536 ≡ length out.old) }
     ensures { Reached state.new }
 {
-    replay(state, &mut memory[..lent], trace, answers);
+    let _ = replay(state, &mut memory[..lent], trace, answers);
     print_piece(rt, output, s, trace, answers, out)
 }
 
@@ -134,7 +137,10 @@ fn step(
     ensures { Reached state.new }
 {
     let got = stream::fill(input, trace);
-    let next = after_read(rt, s, got);
+    let next = Play {
+        tally: s.tally,
+        stage: after_read(rt, s.tally.records, got),
+    };
     let n = taken(got);
     played(
         rt,
@@ -179,8 +185,8 @@ fn print_summary(
     is_written(rt, output, out, n, tally.records);
 }
 
-// Replays the whole trace; the summary is printed where nothing has stopped it. A proved loop has to end: the turns are counted
-// down, from a number that no run uses up.
+// Replays the whole trace; the summary is printed where nothing has stopped it. A proved loop has to end: the turns are bounded by a
+// number that no run uses up.
 pub(super) fn run(
     rt: &impl Eprint,
     input: &mut impl Read,
@@ -196,11 +202,12 @@ pub(super) fn run(
     let mut out = [0u8; ROOM_BYTES];
     let mut s = Play {
         tally: Tally::new(),
-        open: true,
-        good: true,
+        stage: Stage::Open,
     };
-    let mut turns = u64::MAX;
-    while turns > 0 && s.open && s.good {
+    for _ in 0..u64::MAX {
+        if s.stage != Stage::Open {
+            break;
+        }
         s = turn(
             rt,
             input,
@@ -213,9 +220,8 @@ pub(super) fn run(
             &mut answers,
             &mut out,
         );
-        turns -= 1;
     }
-    if s.good {
+    if s.stage != Stage::Stopped {
         print_summary(rt, output, s.tally, &mut out);
     }
 }

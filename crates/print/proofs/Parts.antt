@@ -6,6 +6,7 @@ use native.Mathlib.Nat.{add-suc}
 use native.Mathlib.Omega.{arith}
 use lib.ListN.{length, take, drop, set, take-append-drop, length-drop}
 use lib.Seq.{sets, length-sets, drop_at, take-append_seam, take-set-le, drop-set-lt, drop-set-add, length-take-le, drop-drop}
+use borrow.Rule.Slice.PartMut.{put_mid}
 use Rattle.le.specs.Memory.{put}
 use Rattle.le.proofs.Parts.{sets_put, rest_part, rest_put}
 use Rattle.print.specs.Put.{Put}
@@ -14,6 +15,17 @@ use Rattle.print.specs.Put.{Put}
 split : (o : List ℕ) (p : ℕ) (a : List ℕ) → p + length a ≤ length o → sets o p a ≡ take p o ++ (a ++ drop (p + length a) o)
 unfolding put
 split o p a h = sets_put o p a h
+
+-- a text copied into a part of a buffer, `&mut o[p..p + n]` as the borrow checker has it, is put into the buffer
+pub put_copied : (o : List ℕ) (p k : ℕ) {a b : List ℕ} → b ≡ a → k ≡ length a → p + length a ≤ length o
+    → Put o p a (put_mid p k o b) (p + length a)
+put_copied o p k {a} {b} e i h =
+    record {
+      holds =
+          ap (put_mid p k o) e ∙ ap (λ (n : ℕ). put_mid p n o a) i ∙ ap (λ (x : List ℕ). take p o ++ (a ++ x)) (drop-drop (length a) p o)
+          ∙ sym (split o p a h);
+      ends = refl;
+    }
 
 -- what stands before a place that is stored from, and what stands behind it
 take_sets : (k : ℕ) (vs l : List ℕ) (i : ℕ) → k ≤ i → take k (sets l i vs) ≡ take k l

@@ -20,13 +20,9 @@ pub fn put(out: &mut [u8], at: usize, text: &[u8]) -> usize
     requires { at + length text.now ≤ length out.old }
     ensures { Put out.old at text.now out.new result }
 {
-    let mut to = at;
-    let mut i = 0;
-    while i < text.len() {
-        to = put_one(out, to, text[i]);
-        i += 1;
-    }
-    to
+    let end = at + text.len();
+    out[at..end].copy_from_slice(text);
+    end
 }
 
 // The last digits of a number in decimal, at most so many.
@@ -67,10 +63,8 @@ pub fn put_numbers(out: &mut [u8], at: usize, values: &[u64]) -> usize
     ensures { Put out.old at (numbers values.now) out.new result }
 {
     let mut to = at;
-    let mut i = 0;
-    while i < values.len() {
-        to = put_next(out, to, values[i]);
-        i += 1;
+    for value in values {
+        to = put_next(out, to, *value);
     }
     to
 }
@@ -101,10 +95,8 @@ pub fn put_hex(out: &mut [u8], at: usize, bytes: &[u8]) -> usize
     ensures { Put out.old at (hex bytes.now) out.new result }
 {
     let mut to = at;
-    let mut i = 0;
-    while i < bytes.len() {
-        to = put_hex_byte(out, to, bytes[i]);
-        i += 1;
+    for byte in bytes {
+        to = put_hex_byte(out, to, *byte);
     }
     to
 }

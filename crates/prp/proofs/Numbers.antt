@@ -1,4 +1,6 @@
 -- The numbers of the walk's answer, refusal and list entries read, by rules of their own. Assumes nothing.
+use Rattle.prp.specs.declared.Walked.{Walked}
+use Rattle.std.specs.Prelude.{Result}
 use Prim.Native.Nat.{ℕ, zero, suc, ◌+◌, ◌-◌, ◌*◌, ◌%◌, ◌≤◌, ◌<◌}
 use mathlib.Core.Bool.{true, false}
 use mathlib.Core.List.{List, [], ◌∷◌}
@@ -13,8 +15,6 @@ use Rattle.rules.proofs.Tables.{Unapplied, passed, append_refused, append_passed
 use Rattle.prp.specs.Pages.{page_size, pages_touched}
 use Rattle.prp.specs.Walk.{Walk, refused, found, after, list, data_pages, before_walk, page_walk}
 use Rattle.prp.specs.Answer.{answer, refusal_of, reads_of, prp2_rules, walk_refusal, entries_read, walk_reads}
-use Rattle.prp.specs.declared.Walked.{Walked}
-use Rattle.prp.specs.declared.Walked.TheVariants.{Refused}
 use Rattle.prp.proofs.Addresses.{Complete}
 use Rattle.prp.proofs.Outcomes.{Why, wrong_length, wrong_size, wrong_prp1, no_room, wrong_page, wrong_list, wrong_entry, no_entry}
 use Rattle.prp.proofs.Outcomes.{refused_exactly, complete}
@@ -105,15 +105,10 @@ module _ (m : List ℕ) (prp1 prp2 len k address_room count_room : ℕ) where
           ∙ sym (settle_accepted _ (λ x. 0) _ n)
 
   -- an answer that is the walk's has these numbers
-  abbrev pub InNumbers : Walked → Type 0
+  abbrev pub InNumbers : Result Walked ℕ → Type 0
   InNumbers r =
       (refusal_of r ≡ walk_refusal m prp1 prp2 len k address_room count_room)
       × (reads_of r ≡ walk_reads m prp1 prp2 len k address_room count_room)
 
-  pub in_numbers : (r : Walked) → r ≡ answer walk → InNumbers r
+  pub in_numbers : (r : Result Walked ℕ) → r ≡ answer walk → InNumbers r
   in_numbers r e = (ap refusal_of e ∙ refusal_number, ap reads_of e ∙ reads_number)
-
-  -- and so has a refusal before the walk
-  pub in_numbers_before : (n : ℕ) → n ≡ first_match (before_walk prp1 len k address_room count_room) → (n ≡ 0 → ⊥) → InNumbers (Refused n)
-  unfolding answer page_walk
-  in_numbers_before n is d = in_numbers (Refused n) (rw (← is, settle_refused n refused _ d))

@@ -1,34 +1,33 @@
 -- The answer of the page walk, and what the walk leaves in its buffers.
-use Rattle.std.specs.Prelude.{ℕ, ◌+◌, ◌-◌, ◌*◌, ◌%◌, not, ◌&&◌, List, [], ◌∷◌, ◌++◌, leb, ltb, eqb, length}
+use Rattle.prp.specs.declared.Walked.{Walked}
+use Rattle.std.specs.Prelude.{ℕ, ◌+◌, ◌-◌, ◌*◌, ◌%◌, not, ◌&&◌, List, [], ◌∷◌, ◌++◌, leb, ltb, eqb, length, Result, Ok, Err}
 use Rattle.rules.specs.Rules.{pick, Table, first_match, settle}
 use Rattle.le.specs.Le.{le}
 use Rattle.prp.specs.Pages.{page_size, pages_touched}
 use Rattle.prp.specs.Walk.{Walk, refused, found, list, before_walk}
-use Rattle.prp.specs.declared.Walked.{Walked}
-use Rattle.prp.specs.declared.Walked.TheVariants.{Pages, Refused}
 
 -- the answer for a walk: the number of pages and the number of list entries read, or the refusal
-unfoldable pub answer : Walk → Walked
-answer (refused number) = Refused number
-answer (found l n) = Pages (length l) n
+unfoldable pub answer : Walk → Result Walked ℕ
+answer (refused number) = Err number
+answer (found l n) = Ok (record { pages = length l; reads = n })
 
 -- the same where so many pages were found and so many entries read before the walk
-unfoldable pub counted : ℕ → ℕ → Walk → Walked
-counted pages reads (refused number) = Refused number
-counted pages reads (found l n) = Pages (pages + length l) (reads + n)
+unfoldable pub counted : ℕ → ℕ → Walk → Result Walked ℕ
+counted pages reads (refused number) = Err number
+counted pages reads (found l n) = Ok (record { pages = pages + length l; reads = reads + n })
 
 -- The paper's number and values for each case of the answer: beside a refusal "every other number in its answer is 0".
-abbrev pub refusal_of : Walked → ℕ
-refusal_of (Pages n reads) = 0
-refusal_of (Refused number) = number
+abbrev pub refusal_of : Result Walked ℕ → ℕ
+refusal_of (Ok w) = 0
+refusal_of (Err number) = number
 
-abbrev pub pages_of : Walked → ℕ
-pages_of (Pages n reads) = n
-pages_of (Refused number) = 0
+abbrev pub pages_of : Result Walked ℕ → ℕ
+pages_of (Ok w) = w.pages
+pages_of (Err number) = 0
 
-abbrev pub reads_of : Walked → ℕ
-reads_of (Pages n reads) = reads
-reads_of (Refused number) = 0
+abbrev pub reads_of : Result Walked ℕ → ℕ
+reads_of (Ok w) = w.reads
+reads_of (Err number) = 0
 
 -- The refusals from PRP2 on, n pages being touched: PRP2 as a page, PRP2 as the address of a list, and what the list comes to.
 abbrev pub prp2_rules : ℕ → List ℕ → ℕ → ℕ → Table

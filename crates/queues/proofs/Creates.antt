@@ -1,10 +1,10 @@
 -- Laws of the tests of a new ring. Assumes nothing.
 use Prim.Native.Nat.{ℕ, ◌+◌, ◌*◌, ◌-◌, ◌%◌, ◌≤◌, ◌<◌, min, max}
 use mathlib.Core.Bool.{Bool, true, false}
-use mathlib.Core.Path.{◌≡◌, sym}
+use mathlib.Core.Path.{◌≡◌}
 use native.Mathlib.Omega.{arith}
 use lib.Dec.{ltb}
-use borrow.Author.Tests.{le-ltb, eq-eqb}
+use borrow.Author.Tests.{eq-eqb}
 use Rattle.rules.specs.Rules.{first_match}
 use Rattle.rules.proofs.Exactly.{says_lt, says_as, says_same}
 use Rattle.ring.specs.Slots.{wrong_size}
@@ -24,13 +24,15 @@ module _ (a k b l : ℕ) where
   share_second h g =
       says_same (says_lt 0 k) (says_as (says_lt (max a b) (min (a + k) (b + l))) (λ p. omega arith) (λ p. omega arith))
 
-  pub apart_first : a ≤ b → k ≤ b - a → false ≡ share_byte a k b l
+  pub apart_first : a ≤ b → k ≤ b - a → ltb (b - a) k ≡ share_byte a k b l
   unfolding share_byte
-  apart_first h g = sym (le-ltb (max a b) (min (a + k) (b + l)) (omega arith))
+  apart_first h g =
+      says_same (says_lt (b - a) k) (says_as (says_lt (max a b) (min (a + k) (b + l))) (λ p. omega arith) (λ p. omega arith))
 
-  pub apart_second : b < a → l ≤ a - b → false ≡ share_byte a k b l
+  pub apart_second : b < a → l ≤ a - b → ltb (a - b) l ≡ share_byte a k b l
   unfolding share_byte
-  apart_second h g = sym (le-ltb (max a b) (min (a + k) (b + l)) (omega arith))
+  apart_second h g =
+      says_same (says_lt (a - b) l) (says_as (says_lt (max a b) (min (a + k) (b + l))) (λ p. omega arith) (λ p. omega arith))
 
 -- the refusals of a new ring, from what the code finds of its size, its end and the rings that it meets
 module _ (c : Controller) (n entry size base : ℕ) {wrong : Bool} (w : wrong ≡ wrong_size size) (x : wrong ≡ false)

@@ -1,4 +1,3 @@
 pub mod Scans
-pub mod Bounds
 pub mod Changes
 pub mod Creates

@@ -1,26 +1,25 @@
--- Laws of a loop that asks of one number after another below n whether it passes a test. Assumes nothing.
-use Prim.Native.Nat.{ℕ, ◌+◌, ◌≤◌, ◌<◌}
+-- The law of a search that asks of one number after another below n whether it passes a test. Assumes nothing.
+use Prim.Native.Nat.{ℕ, zero, suc, ◌+◌}
 use mathlib.Core.Bool.{Bool, true, false}
-use mathlib.Core.Path.{◌≡◌, sym}
+use mathlib.Core.Path.{◌≡◌, refl, sym}
 use native.Mathlib.Omega.{arith}
-use borrow.Author.Count.{below_more, below_none}
-use Rattle.bits.specs.Bits.{some_below}
-use Rattle.bits.proofs.Some.{some_found, some_none}
+use borrow.Author.Tests.{lt-ltb, le-ltb}
+use Rattle.std.proofs.Common.{add-one}
+use Rattle.std.specs.List.{list_any, range_with_len}
+use Rattle.bits.specs.Bits.{first, some_below}
+use lib.Dec.{ltb}
 
-module _ (n : ℕ) (p : ℕ → Bool) where
-  -- the loop's invariant: no number below i passes
-  pub record Unfound (i : ℕ) : Type 0 where
-    pub low : i ≤ n
-    pub none : (k : ℕ) → k < i → p k ≡ false
+-- to ask it of the numbers from a to e in their order is to look for the first that passes
+any_from : (p : ℕ → Bool) (a n e : ℕ) → a + n ≡ e → list_any p (range_with_len a n) ≡ ltb (first p a n) e
+unfolding first
+any_from p a zero e l = sym (le-ltb a e (omega arith))
+any_from p a (suc n) e l = go (p a) refl (any_from p (suc a) n e (omega arith))
+  where
+    go : (b : Bool) → p a ≡ b → list_any p (range_with_len (suc a) n) ≡ ltb (first p (suc a) n) e
+        → list_any p (range_with_len a (suc n)) ≡ ltb (first p a (suc n)) e
+    go true t h = rw t (sym (lt-ltb a e (omega arith)))
+    go false t h = rw (t, add-one a) h
 
-  pub begins : Unfound 0
-  begins = record { low = omega arith; none = below_none _ }
-
-  pub goes_on : {i : ℕ} → Unfound i → i < n → p i ≡ false → Unfound (i + 1)
-  goes_on u h e = record { low = omega arith; none = below_more _ _ u.none e }
-
-  pub found : (i : ℕ) → i < n → p i ≡ true → true ≡ some_below n p
-  found i h e = sym (some_found n p i h e)
-
-  pub ends : {i : ℕ} → Unfound i → n ≤ i → false ≡ some_below n p
-  ends u h = sym (some_none n p (λ k l. u.none k (omega arith)))
+pub any_below : (p : ℕ → Bool) (n : ℕ) → list_any p (range_with_len 0 n) ≡ some_below n p
+unfolding some_below
+any_below p n = any_from p 0 n n (omega arith)

@@ -1,6 +1,7 @@
 // Deleting queues. A deleted queue is as one that never was.
 ghost use Rattle.std.specs.Prelude.{◌≡◌, ◌<◌};
 ghost use Rattle.rules.specs.Rules.{first_match};
+ghost use Rattle.rules.specs.Refusal.{number, code};
 ghost use Rattle.le.specs.Memory.{Memory};
 ghost use Rattle.controller.specs.Answers.{outcome};
 ghost use Rattle.controller.specs.Calls.{perform, of_number, delete_cq, delete_sq};
@@ -10,6 +11,7 @@ ghost use Rattle.store.specs.Held.{held, Sound, Reached};
 
 use crate::create::{cq_exists, sq_exists};
 use controller::{CompletionQueue, Ring, SubmissionQueue};
+use rules::refusal::Refusal;
 use store::{Controller, WORDS, command_at, free_of, is_outstanding, put_cq, put_sq, sq_at};
 
 // Whether the command of tag `t` is outstanding and was taken from submission queue `id`.
@@ -17,25 +19,14 @@ fn taken_from(state: &[u64; WORDS], id: u64, t: usize) -> bool
     requires { t < 64 }
     ensures { result ≡ taken_from (held state.now) id t }
 {
-    if !is_outstanding(free_of(state), t as u64) {
-        return false;
-    }
-    let k = command_at(state, t);
-    k.sq as u64 == id
+    is_outstanding(free_of(state), t as u64) && command_at(state, t).sq as u64 == id
 }
 
 // Whether submission queue `id` has outstanding commands.
 fn is_busy(state: &[u64; WORDS], id: u64) -> bool
     ensures { result ≡ busy (held state.now) id }
 {
-    let mut t: usize = 0;
-    while t < Controller::TAGS {
-        if taken_from(state, id, t) {
-            return true;
-        }
-        t += 1;
-    }
-    false
+    (0..Controller::TAGS).any(|t| taken_from(state, id, t))
 }
 
 // Whether submission queue `i` exists and names completion queue `id`.
@@ -44,24 +35,14 @@ fn is_naming(state: &[u64; WORDS], id: u64, i: usize) -> bool
     ensures { result ≡ naming (held state.now) id i }
 {
     let q = sq_at(state, i);
-    if !q.ring.exists {
-        return false;
-    }
-    q.cq as u64 == id
+    q.ring.exists && q.cq as u64 == id
 }
 
 // Whether some submission queue names completion queue `id`.
 fn is_named(state: &[u64; WORDS], id: u64) -> bool
     ensures { result ≡ named (held state.now) id }
 {
-    let mut i: usize = 0;
-    while i < Controller::QUEUES {
-        if is_naming(state, id, i) {
-            return true;
-        }
-        i += 1;
-    }
-    false
+    (0..Controller::QUEUES).any(|i| is_naming(state, id, i))
 }
 
 fn no_ring() -> Ring
@@ -76,67 +57,65 @@ fn no_ring() -> Ring
     }
 }
 
-// Why queue `id` is not deleted: 0, or the refusal number, which is `n` where it is in use.
-fn delete_refusal(id: u64, exists: bool, in_use: bool, n: u64) -> u64
-    ensures { result ≡ first_match (delete_rules id exists in_use n) }
+// Whether queue `id` may be deleted; `busy` is the refusal where it is in use.
+fn may_delete(id: u64, exists: bool, in_use: bool, busy: Refusal) -> Result<(), Refusal>
+    ensures { code result ≡ first_match (delete_rules id exists in_use (number busy)) }
 {
     if Controller::LAST_QUEUE < id {
-        return 1;
+        return Err(Refusal::IdTooLarge);
     }
     if id == 0 {
-        return 35;
+        return Err(Refusal::AdminQueue);
     }
     if !exists {
-        return 9;
+        return Err(Refusal::NoSuchQueue);
     }
     if in_use {
-        return n;
+        return Err(busy);
     }
-    0
+    Ok(())
 }
 
-// Deletes a submission queue: 0, or the refusal number.
-pub fn delete_sq(state: &mut [u64; WORDS], id: u64) -> u64
+// Deletes a submission queue.
+// Kept apart: the two deletions store queues of different types, and what they have in common is `may_delete` and `no_ring`.
+pub fn delete_sq(state: &mut [u64; WORDS], id: u64) -> Result<(), Refusal>
     requires { Reached state.old }
-    ensures { Sound state.new × ((m : Memory) → outcome (of_number result) (held state.new) m
+    ensures { Sound state.new × ((m : Memory) → outcome (of_number (code result)) (held state.new) m
         ≡ perform (held state.old) m (delete_sq id)) }
 {
-    let refusal = delete_refusal(id, sq_exists(state, id), is_busy(state, id), 33);
-    if refusal != 0 {
-        return refusal;
-    }
+    may_delete(
+        id,
+        sq_exists(state, id),
+        is_busy(state, id),
+        Refusal::CommandsOutstanding,
+    )?;
     let ring = no_ring();
     put_sq(
         state,
         id as usize,
         SubmissionQueue {
-            ring: ring,
+            ring,
             marked: false,
             cq: 0,
             class: 0,
         },
     );
-    0
+    Ok(())
 }
 
-// Deletes a completion queue: 0, or the refusal number.
-pub fn delete_cq(state: &mut [u64; WORDS], id: u64) -> u64
+// Deletes a completion queue.
+pub fn delete_cq(state: &mut [u64; WORDS], id: u64) -> Result<(), Refusal>
     requires { Reached state.old }
-    ensures { Sound state.new × ((m : Memory) → outcome (of_number result) (held state.new) m
+    ensures { Sound state.new × ((m : Memory) → outcome (of_number (code result)) (held state.new) m
         ≡ perform (held state.old) m (delete_cq id)) }
 {
-    let refusal = delete_refusal(id, cq_exists(state, id), is_named(state, id), 34);
-    if refusal != 0 {
-        return refusal;
-    }
+    may_delete(
+        id,
+        cq_exists(state, id),
+        is_named(state, id),
+        Refusal::NamedBySubmissionQueue,
+    )?;
     let ring = no_ring();
-    put_cq(
-        state,
-        id as usize,
-        CompletionQueue {
-            ring: ring,
-            phase: 0,
-        },
-    );
-    0
+    put_cq(state, id as usize, CompletionQueue { ring, phase: 0 });
+    Ok(())
 }

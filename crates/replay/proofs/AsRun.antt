@@ -1,5 +1,6 @@
 -- A replay is the run of the calls that it makes; in demand 3 such a run asks for nothing but that its memory is one of bytes and that
 -- nobody else has written into the ring before it. Assumes nothing.
+use Rattle.std.specs.Prelude.{Result, Ok, Err}
 use Prim.Native.Nat.{ℕ, ◌*◌, ◌<◌, ◌^◌}
 use mathlib.Core.Bool.{Bool, true, false}
 use mathlib.Core.List.{List, [], ◌∷◌, ◌++◌}
@@ -79,13 +80,13 @@ abbrev AllTraced : List Call → Type 0
 AllTraced [] = Unit {0}
 AllTraced (x ∷ xs) = Traced x × AllTraced xs
 
-record_traced : (x : Record) (xs : List Call) → AllTraced xs → AllTraced (asked_calls (asked x) ++ xs)
-record_traced (R.TailWrite queue v) xs h = (tt, h)
-record_traced (R.HeadWrite queue v) xs h = (tt, h)
-record_traced R.Start xs h = (tt, h)
-record_traced (R.Finish tag status) xs h = (refl, h)
-record_traced (R.Refused n) xs h = h
-record_traced R.End xs h = h
+record_traced : (x : Result Record ℕ) (xs : List Call) → AllTraced xs → AllTraced (asked_calls (asked x) ++ xs)
+record_traced (Ok (R.TailWrite queue v)) xs h = (tt, h)
+record_traced (Ok (R.HeadWrite queue v)) xs h = (tt, h)
+record_traced (Ok R.Start) xs h = (tt, h)
+record_traced (Ok (R.Finish tag status)) xs h = (refl, h)
+record_traced (Ok R.End) xs h = h
+record_traced (Err n) xs h = h
 
 records_traced : (rs : List (List ℕ)) → AllTraced (calls_in rs)
 records_traced [] = tt

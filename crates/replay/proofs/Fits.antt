@@ -1,4 +1,5 @@
 -- Every number of an answer record fits its bytes, so that the record is read back as what its call answered. Assumes nothing.
+use Rattle.std.specs.Prelude.{Ok, Err}
 use Prim.Native.Nat.{ℕ, ◌<◌}
 use mathlib.Core.Bool.{Bool, true, false, ◌&&◌}
 use mathlib.Core.List.{List, [], ◌∷◌}
@@ -95,7 +96,7 @@ Low (call x) = value_of x < 65536
 Low (none n) = n < 256
 
 low_call : (a b c : Bool) (q v : ℕ) → v < 65536
-    → Low (asked (pick a (R.TailWrite q v) (pick b (R.HeadWrite q v) (pick c R.Start (R.Finish q v)))))
+    → Low (asked (Ok (pick a (R.TailWrite q v) (pick b (R.HeadWrite q v) (pick c R.Start (R.Finish q v))))))
 low_call true b c q v h = h
 low_call false true c q v h = h
 low_call false false true q v h = lit< tt
@@ -112,9 +113,9 @@ unfolding record_in
 low_record r b =
     let n = first_match (record_rules r) in
     ⊎_elim
-    (λ (z : n ≡ 0). subst⁻¹ (λ x. Low (asked x)) (settle_accepted n R.Refused (call_in r) z)
+    (λ (z : n ≡ 0). subst⁻¹ (λ x. Low (asked x)) (settle_accepted n Err (Ok (call_in r)) z)
     (low_call (eqb (sent r) 1) (eqb (sent r) 2) (eqb (sent r) 3) (target r) (value r) (le_at_lt 2 r 2 b)))
-    (λ (d : n ≡ 0 → ⊥). subst⁻¹ (λ x. Low (asked x)) (settle_refused n R.Refused (call_in r) d)
+    (λ (d : n ≡ 0 → ⊥). subst⁻¹ (λ x. Low (asked x)) (settle_refused n Err (Ok (call_in r)) d)
     (low_rules (ltb (length r) 16) (outside_of 1 4 (sent r)) (any_set (spares r))))
     (same_or_not n 0)
 

@@ -1,69 +1,34 @@
 -- The replay record by record: what a call's answer makes of its record, and the room that the answers fill. Assumes nothing.
+use Rattle.std.specs.Prelude.{Result}
 use Prim.Native.Nat.{ℕ, suc, ◌+◌, ◌*◌, ◌-◌, ◌<◌, ◌≤◌}
 use mathlib.Core.List.{List, [], ◌∷◌, ◌++◌}
 use mathlib.Core.Logic.{⊎_elim}
 use mathlib.Core.Path.{◌≡◌, refl, sym, ap, ◌∙◌}
 use native.Mathlib.Omega.{arith}
-use lib.Dec.{eqb}
 use lib.ListN.{length, drop, length-append}
 use lib.Seq.{sets}
 use borrow.Author.Tests.{eq-eqb, ne_eqb, lt-ltb, le-ltb}
-use Rattle.rules.specs.Rules.{pick, settle}
+use Rattle.rules.specs.Rules.{settle}
 use Rattle.rules.proofs.Tests.{same_or_not}
 use Rattle.le.specs.Le.{le, le_at}
 use Rattle.le.specs.Memory.{Memory, part, put}
 use Rattle.le.proofs.Numbers.{sets_append}
 use Rattle.le.proofs.Parts.{sets_put, put_length}
 use Rattle.controller.specs.Controller.{Controller}
-use Rattle.controller.specs.Answers.{Answer, number_of, Outcome, outcome}
-use Rattle.controller.specs.Calls.{Call, perform, of_number}
-use Rattle.store.specs.Held.{held, Sound, Reached}
-use Rattle.store.proofs.Fresh.{reached_call}
-use Rattle.trace.specs.Record.{sent, record_in, Asked, call, none, asked}
-use Rattle.trace.specs.Trace.{begun, records, record_at, next_at}
+use Rattle.controller.specs.Answers.{number_of}
+use Rattle.controller.specs.Calls.{of_number}
+use Rattle.trace.specs.Record.{sent, record_in, asked}
+use Rattle.trace.specs.Trace.{begun, records, record_at}
 use Rattle.trace.specs.declared.Record.{Record}
 use Rattle.trace.proofs.Wholes.{sent_at, there}
-use Rattle.trace.proofs.Cutting.{records_from, count, at_end, unrolled, next_place, room_here, room_next, next_inside}
-use Rattle.replay.specs.Replay.{value_of, result_value, Done, coming, done_by, answer_bytes, Replay, leaving, played, ended, replay}
+use Rattle.trace.proofs.Cutting.{records_from, count, at_end, unrolled, room_here, room_next}
+use Rattle.replay.specs.Replay.{Done, coming, done_by, answer_bytes, Replay, leaving, played, ended, replay}
 
 -- ---- a call's answer in numbers
 
 -- of a call that answers a refusal number
 pub number_is : (n : ℕ) → n ≡ number_of (of_number n)
 number_is n = ⊎_elim (λ (z : n ≡ 0). rw (eq-eqb n 0 z) z) (λ (h : n ≡ 0 → ⊥). rw (ne_eqb n 0 h)) (same_or_not n 0)
-
--- of an answer that was taken apart: a is b
-pub taken_apart : {A : Type 0} (f : A → Answer) {a b : A} {n r : ℕ} → a ≡ b → n ≡ number_of (f b) → ((x : Call) → r ≡ result_value x (f b))
-    → (n ≡ number_of (f a)) × ((x : Call) → r ≡ result_value x (f a))
-taken_apart f e p q = rw e (p, q)
-
-module _ (c : Controller) (m : Memory) (x : Call) {d : Controller} {left : Memory} {n r : ℕ} where
-  answered : {a : Answer} → outcome a d left ≡ perform c m x → (n ≡ number_of a) × (r ≡ result_value x a)
-      → coming n r d left ≡ done_by c m (call x)
-  answered {a} e (p, q) = ap (λ (i : ℕ). coming i r d left) p ∙ ap (λ (i : ℕ). coming (number_of a) i d left) q ∙ ap made e
-    where
-      made : Outcome → Done
-      made o = coming (number_of o.answer) (result_value x o.answer) o.controller o.memory
-
--- of a doorbell write
-pub written : (x : Call) {k n r : ℕ} → (n ≡ k) × (r ≡ pick (eqb k 0) (value_of x) 0)
-    → (n ≡ number_of (of_number k)) × (r ≡ result_value x (of_number k))
-written x {k} (p, q) = (p ∙ number_is k, q ∙ value_is)
-  where
-    value_is : pick (eqb k 0) (value_of x) 0 ≡ result_value x (of_number k)
-    value_is = ⊎_elim (λ (z : k ≡ 0). rw (eq-eqb k 0 z)) (λ (h : k ≡ 0 → ⊥). rw (ne_eqb k 0 h)) (same_or_not k 0)
-
--- the call x that a record asks for was made: its answer in numbers, and the words that it left
-pub executed : {w u : List ℕ} (m : Memory) (x : Call) {left : Memory} {n r : ℕ} {y : Answer} {a : Asked} → a ≡ call x
-    → Reached w → Sound u → outcome y (held u) left ≡ perform (held w) m x → (n ≡ number_of y) × (r ≡ result_value x y)
-    → Reached u × (coming n r (held u) left ≡ done_by (held w) m a)
-executed {w} m x is before sound e numbers =
-    (reached_call m x before sound e, answered (held w) m x e numbers ∙ ap (done_by (held w) m) (sym is))
-
--- a record that asks for none
-pub uncalled : (c : Controller) (m : Memory) {n r k : ℕ} {a : Asked} → a ≡ none k → (n ≡ k) × (r ≡ 0)
-    → coming n r c m ≡ done_by c m a
-uncalled c m is (p, q) = rw (is, p, q)
 
 -- ---- the record at a place of the trace
 
@@ -75,7 +40,7 @@ module _ (c : Controller) (m : Memory) (t room : List ℕ) (place : ℕ) (l : pl
       (c' ≡ d.controller) × (m' ≡ d.memory) × (room' ≡ put room place (answer_bytes (sent r) d.refusal d.result))
 
   -- it was read, its call was made, and the answer put into the room
-  pub recorded : {x : Record} {b n r : ℕ} {c' : Controller} {m' : Memory} {room' : List ℕ} → x ≡ record_at t place
+  pub recorded : {x : Result Record ℕ} {b n r : ℕ} {c' : Controller} {m' : Memory} {room' : List ℕ} → x ≡ record_at t place
       → coming n r c' m' ≡ done_by c m (asked x) → b ≡ le_at 1 t place → room' ≡ put room place (answer_bytes b n r) → Answers c' m' room'
   recorded {x} {b} {n} {r} {c'} {m'} {room'} e o f p =
       let y = part t place 16 in
@@ -153,7 +118,6 @@ one_more c m room place r rs h =
 
 -- a replay on the way: its answers so far stand in the room up to the place that it has come to
 pub record Going (c₀ : Controller) (m₀ : Memory) (t room₀ : List ℕ) (c : Controller) (m : Memory) (room : List ℕ) (place : ℕ) : Type 0 where
-  pub inside : place ≤ length t
   pub fits : place + 16 * begun (length t - place) ≤ length room
   pub same : filled c m room place (records_from t place) ≡ filled c₀ m₀ room₀ 0 (records t)
 
@@ -161,7 +125,7 @@ pub begins : (c : Controller) (m : Memory) (t room : List ℕ) → 16 * begun (l
 unfolding records
 begins c m t room h =
     let e : length t - 0 ≡ length t = omega arith in
-    record { inside = omega arith; fits = rw e (omega arith); same = rw e }
+    record { fits = rw e (omega arith); same = rw e }
 
 module _ {c₀ : Controller} {m₀ : Memory} {t room₀ : List ℕ} {c : Controller} {m : Memory} {room : List ℕ} {place : ℕ}
     (g : Going c₀ m₀ t room₀ c m room place) where
@@ -172,22 +136,12 @@ module _ {c₀ : Controller} {m₀ : Memory} {t room₀ : List ℕ} {c : Control
     pub room_now : place + 16 ≤ length room
     room_now = omega (arith, room_here t place l, g.fits)
 
-    module _ (c' : Controller) (m' : Memory) (room' : List ℕ) (n : length room' ≡ length room) where
-      -- the answers go on 16 bytes further, which is the next place where a record is left
-      further : filled c' m' room' (next_at t place) (records_from t (next_at t place))
-          ≡ filled c' m' room' (place + 16) (records_from t (next_at t place))
-      further =
-          ⊎_elim (λ e. ap (λ k. filled c' m' room' k (records_from t (next_at t place))) e)
-          (λ e. rw e (sym (none_left c' m' room' (next_at t place) (omega (arith, room_next t place l, g.fits)))
-          ∙ none_left c' m' room' (place + 16) (omega (arith, room_now))))
-          (next_place t place l)
-
     pub goes_on : let d = done_by c m (asked (record_in (part t place 16))) in
         Going c₀ m₀ t room₀ d.controller d.memory
-        (put room place (answer_bytes (sent (part t place 16)) d.refusal d.result)) (next_at t place)
+        (put room place (answer_bytes (sent (part t place 16)) d.refusal d.result)) (place + 16)
     goes_on =
         let r = part t place 16 in
-        let rest = records_from t (next_at t place) in
+        let rest = records_from t (place + 16) in
         let d = done_by c m (asked (record_in r)) in
         let a = answer_bytes (sent r) d.refusal d.result in
         let n : length (put room place a) ≡ length room = put_length room place a
@@ -195,10 +149,8 @@ module _ {c₀ : Controller} {m₀ : Memory} {t room₀ : List ℕ} {c : Control
         let k : begun (length t - place) ≡ suc (length rest) = sym (count (begun (length t - place)) (drop place t))
         ∙ ap length (unrolled t place l) in
         record {
-          inside = (next_inside t place l).1;
           fits = omega (arith, room_next t place l, g.fits, n);
-          same = further d.controller d.memory (put room place a) n
-              ∙ sym (one_more c m room place r rest (omega (arith, g.fits, k)))
+          same = sym (one_more c m room place r rest (omega (arith, g.fits, k)))
               ∙ ap (filled c m room place) (sym (unrolled t place l))
               ∙ g.same;
         }

@@ -1,5 +1,5 @@
 -- The replay of a plant's trace over a controller and a memory.
-use Rattle.std.specs.Prelude.{ℕ, ◌*◌, List, [], ◌∷◌, ◌++◌, ltb, length, replicate}
+use Rattle.std.specs.Prelude.{ℕ, ◌*◌, List, [], ◌∷◌, ◌++◌, ltb, length, replicate, Result, Ok, Err}
 use Rattle.rules.specs.Rules.{Table, first_match, settle}
 use Rattle.le.specs.Le.{le}
 use Rattle.le.specs.Memory.{Memory, put}
@@ -8,8 +8,6 @@ use Rattle.controller.specs.Answers.{Answer, refused, done, started, finished, n
 use Rattle.controller.specs.Calls.{Call, create_cq, create_sq, delete_cq, delete_sq, tail_write, head_write, start, finish, perform}
 use Rattle.trace.specs.Record.{sent, record_in, Asked, call, none, asked}
 use Rattle.trace.specs.Trace.{begun, records}
-use Rattle.replay.specs.declared.Replayed.{Replayed}
-use Rattle.replay.specs.declared.Replayed.TheVariants.{Records, Refused}
 
 -- the value that a doorbell write writes, and 0 for another call
 abbrev pub value_of : Call → ℕ
@@ -28,6 +26,11 @@ result_value x (refused n) = 0
 result_value x done = value_of x
 result_value x (started s) = s.first
 result_value x (finished f) = f.slot
+
+-- the value of an answer, and 0 beside a refusal
+abbrev pub value_or_0 : Result ℕ ℕ → ℕ
+value_or_0 (Ok n) = n
+value_or_0 (Err n) = 0
 
 -- what a record comes to
 pub record Done : Type 0 where
@@ -67,9 +70,9 @@ played c m (r ∷ rs) =
 -- ---- the call
 
 -- the papers' number and value for each answer: the refusal, and how many answer records were written
-abbrev pub replay_answer : Replayed → ℕ × ℕ
-replay_answer (Records n) = (0, n)
-replay_answer (Refused n) = (n, 0)
+abbrev pub replay_answer : Result ℕ ℕ → ℕ × ℕ
+replay_answer (Ok n) = (0, n)
+replay_answer (Err n) = (n, 0)
 
 -- "The answer room is tested first (21), one record for each begun record"
 abbrev pub room_rules : ℕ → ℕ → Table

@@ -2,7 +2,8 @@
 use Prim.Native.Nat.{ℕ, ◌≤◌, ◌<◌}
 use mathlib.Core.Bool.{Bool, true, false, not}
 use mathlib.Core.List.{List}
-use mathlib.Core.Path.{◌≡◌, ap, ◌∙◌}
+use mathlib.Core.Path.{◌≡◌, refl, ap, ◌∙◌}
+use mir.Val.{bool_byte as from_bool}
 use borrow.Author.Tests.{lt-ltb, le-ltb}
 use Rattle.rules.specs.Rules.{settle}
 use Rattle.le.specs.Memory.{Memory}
@@ -32,9 +33,9 @@ module _ {a : Answer} {u : List ℕ} {left : Memory} {o : Outcome} (s : Sound u)
   left_memory = ap (λ (x : Outcome). x.memory) e
 
 -- of a call that answers a refusal number
-pub numbered : {n : ℕ} {u : List ℕ} {left : Memory} {o : Outcome} → Sound u → outcome (of_number n) (held u) left ≡ o
-    → (n ≡ number_of o.answer) × Holds u o.controller
-numbered {n} s e = (number_is n ∙ ap number_of (answered s e), left_held s e)
+pub numbered : {k n : ℕ} {u : List ℕ} {left : Memory} {o : Outcome} → k ≡ n → Sound u → outcome (of_number n) (held u) left ≡ o
+    → (k ≡ number_of o.answer) × Holds u o.controller
+numbered {k} {n} is s e = (is ∙ number_is n ∙ ap number_of (answered s e), left_held s e)
 
 -- of a replay
 pub replayed : {a : ℕ × ℕ} {u left room : List ℕ} {e : Ended} → Sound u → ended a (held u) left room ≡ e
@@ -47,6 +48,11 @@ replayed s q = (
 )
 
 -- ---- looks
+
+-- a bit by std's conversion
+pub bit_is : (b : Bool) → from_bool b ≡ bit_of b
+bit_is true = refl
+bit_is false = refl
 
 module _ (c : Controller) (id : ℕ) where
   pub sq_1 : 15 < id → no_sq_numbers 1 ≡ sq_numbers c id

@@ -6,18 +6,14 @@ use mathlib.Core.Logic.{⊎_elim}
 use mathlib.Core.Path.{◌≡◌, refl, ap}
 use lib.Dec.{ltb}
 use lib.ListN.{length}
+use Rattle.std.specs.Prelude.{Result, Ok, Err}
 use Rattle.rules.specs.Rules.{first_match}
 use Rattle.rules.proofs.Tests.{lt_or_ge}
 use Rattle.rules.proofs.Cases.{settle_cases}
 use Rattle.le.specs.Memory.{Memory}
-use Rattle.entry.specs.declared.submission.SubmissionRead.{SubmissionRead}
-use Rattle.entry.specs.declared.submission.SubmissionRead.TheVariants as S
-use Rattle.entry.specs.declared.completion.CompletionRead.{CompletionRead}
-use Rattle.entry.specs.declared.completion.CompletionRead.TheVariants as C
-use Rattle.ring.specs.declared.reader.Waiting.{Waiting}
-use Rattle.ring.specs.declared.reader.Waiting.TheVariants as R
+use Rattle.entry.specs.declared.submission.Submission.{Submission}
+use Rattle.entry.specs.declared.completion.Completion.{Completion}
 use Rattle.prp.specs.declared.Walked.{Walked}
-use Rattle.prp.specs.declared.Walked.TheVariants as W
 use Rattle.controller.specs.Controller.{Controller}
 use Rattle.controller.specs.State.{sq_at, cq_at, outstanding}
 use Rattle.controller.specs.Answers.{Answer, refused, done, started, finished}
@@ -33,7 +29,7 @@ use Rattle.rig.specs.Numbers.{no_cq_numbers, no_command_numbers}
 
 -- ---- readers, and the page walk
 
-pub submission_zeros : (r : SubmissionRead) → ((submission_numbers r).refusal ≡ 0 → ⊥)
+pub submission_zeros : (r : Result Submission ℕ) → ((submission_numbers r).refusal ≡ 0 → ⊥)
     → submission_numbers r
     ≡ record {
       refusal = (submission_numbers r).refusal;
@@ -52,22 +48,23 @@ pub submission_zeros : (r : SubmissionRead) → ((submission_numbers r).refusal 
       cdw12_upper = 0;
       opc = 0;
     }
-submission_zeros (S.Entry e) n = absurd (n refl)
-submission_zeros (S.Refused k) n = refl
+submission_zeros (Ok e) n = absurd (n refl)
+submission_zeros (Err k) n = refl
 
-pub completion_zeros : (r : CompletionRead) → ((completion_numbers r).refusal ≡ 0 → ⊥)
+pub completion_zeros : (r : Result (Completion × ℕ) ℕ) → ((completion_numbers r).refusal ≡ 0 → ⊥)
     → completion_numbers r
     ≡ record { refusal = (completion_numbers r).refusal; result = 0; sqhd = 0; sqid = 0; cid = 0; status = 0; phase = 0 }
-completion_zeros (C.Entry e phase) n = absurd (n refl)
-completion_zeros (C.Refused k) n = refl
+completion_zeros (Ok (e, phase)) n = absurd (n refl)
+completion_zeros (Err k) n = refl
 
-pub waiting_zeros : (r : Waiting) → ((waiting_numbers r).refusal ≡ 0 → ⊥) → (waiting_numbers r).count ≡ 0
-waiting_zeros (R.Count k) n = absurd (n refl)
-waiting_zeros (R.Refused k) n = refl
+pub waiting_zeros : (r : Result ℕ ℕ) → ((waiting_numbers r).refusal ≡ 0 → ⊥) → (waiting_numbers r).count ≡ 0
+waiting_zeros (Ok k) n = absurd (n refl)
+waiting_zeros (Err k) n = refl
 
-pub pages_zeros : (w : Walked) → ((pages_numbers w).refusal ≡ 0 → ⊥) → ((pages_numbers w).pages ≡ 0) × ((pages_numbers w).reads ≡ 0)
-pages_zeros (W.Pages k reads) n = absurd (n refl)
-pages_zeros (W.Refused k) n = (refl, refl)
+pub pages_zeros : (w : Result Walked ℕ) → ((pages_numbers w).refusal ≡ 0 → ⊥)
+    → ((pages_numbers w).pages ≡ 0) × ((pages_numbers w).reads ≡ 0)
+pages_zeros (Ok w) n = absurd (n refl)
+pages_zeros (Err k) n = (refl, refl)
 
 -- ---- calls
 

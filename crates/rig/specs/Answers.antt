@@ -1,12 +1,10 @@
 -- The answers of the readers and of the page walk as the rig has them: document 01's numbers and values in one record.
-use Rattle.std.specs.Prelude.{ℕ}
+use Rattle.std.specs.Prelude.{ℕ, Result}
 use Rattle.entry.specs.Submission.{submission_answer}
 use Rattle.entry.specs.declared.submission.Submission.{Submission}
-use Rattle.entry.specs.declared.submission.SubmissionRead.{SubmissionRead}
 use Rattle.entry.specs.Completion.{completion_answer}
-use Rattle.entry.specs.declared.completion.CompletionRead.{CompletionRead}
+use Rattle.entry.specs.declared.completion.Completion.{Completion}
 use Rattle.ring.specs.Reader.{waiting_answer}
-use Rattle.ring.specs.declared.reader.Waiting.{Waiting}
 use Rattle.prp.specs.Answer.{refusal_of, pages_of, reads_of}
 use Rattle.prp.specs.declared.Walked.{Walked}
 use Rattle.rig.specs.declared.SubmissionNumbers.{SubmissionNumbers}
@@ -55,10 +53,10 @@ fields_of n e =
       opc = e.opc;
     }
 
-abbrev pub submission_numbers : SubmissionRead → SubmissionNumbers
+abbrev pub submission_numbers : Result Submission ℕ → SubmissionNumbers
 submission_numbers r = let a = submission_answer r in fields_of a.0 a.1
 
-abbrev pub completion_numbers : CompletionRead → CompletionNumbers
+abbrev pub completion_numbers : Result (Completion × ℕ) ℕ → CompletionNumbers
 completion_numbers r =
     let a = completion_answer r in
     let e = a.1 in
@@ -72,8 +70,8 @@ completion_numbers r =
       phase = a.2;
     }
 
-abbrev pub waiting_numbers : Waiting → WaitingNumbers
+abbrev pub waiting_numbers : Result ℕ ℕ → WaitingNumbers
 waiting_numbers r = let a = waiting_answer r in record { refusal = a.0; count = a.1 }
 
-abbrev pub pages_numbers : Walked → PagesNumbers
+abbrev pub pages_numbers : Result Walked ℕ → PagesNumbers
 pages_numbers w = record { refusal = refusal_of w; pages = pages_of w; reads = reads_of w }

@@ -14,10 +14,8 @@ ghost use Rattle.prp.specs.Walk.{page_walk};
 ghost use Rattle.prp.specs.Answer.{answer, addresses_of, numbers};
 ghost use Rattle.rig.specs.Answers.{submission_of, submission_numbers, completion_numbers, waiting_numbers, pages_numbers};
 
-use entry::completion::CompletionRead;
-use entry::submission::{Submission, SubmissionRead};
-use prp::Walked;
-use ring::reader::Waiting;
+use entry::submission::Submission;
+use rules::refusal::code;
 
 pub mod state;
 
@@ -90,25 +88,25 @@ pub fn bellrafter_submission_write(
     ensures after { entry.new ≡ submission.written entry.old
         (submission_of opc fuse psdt cid nsid mptr prp1 prp2 slba nlb cdw12_upper cdw13 cdw14 cdw15) }
 {
-    entry::submission::write(
+    code(entry::submission::write(
         entry,
         Submission {
-            opc: opc,
-            fuse: fuse,
-            psdt: psdt,
-            cid: cid,
-            nsid: nsid,
-            mptr: mptr,
-            prp1: prp1,
-            prp2: prp2,
-            slba: slba,
-            nlb: nlb,
-            cdw12_upper: cdw12_upper,
-            cdw13: cdw13,
-            cdw14: cdw14,
-            cdw15: cdw15,
+            opc,
+            fuse,
+            psdt,
+            cid,
+            nsid,
+            mptr,
+            prp1,
+            prp2,
+            slba,
+            nlb,
+            cdw12_upper,
+            cdw13,
+            cdw14,
+            cdw15,
         },
-    )
+    ))
 }
 
 // Reads the submission entry in the first 64 bytes of `entry`.
@@ -116,7 +114,7 @@ pub fn bellrafter_submission_read(entry: &[u8]) -> SubmissionNumbers
     ensures { result ≡ submission_numbers (submission_read entry.now) }
 {
     match entry::submission::read(entry) {
-        SubmissionRead::Entry(e) => SubmissionNumbers {
+        Ok(e) => SubmissionNumbers {
             refusal: 0,
             fuse: e.fuse,
             psdt: e.psdt,
@@ -133,8 +131,8 @@ pub fn bellrafter_submission_read(entry: &[u8]) -> SubmissionNumbers
             cdw12_upper: e.cdw12_upper,
             opc: e.opc as u16,
         },
-        SubmissionRead::Refused(number) => SubmissionNumbers {
-            refusal: number,
+        Err(refusal) => SubmissionNumbers {
+            refusal: refusal.number(),
             fuse: 0,
             psdt: 0,
             mptr: 0,
@@ -166,7 +164,7 @@ pub fn bellrafter_completion_write(
     ensures value { result ≡ write_refusal (length entry.old) status }
     ensures after { entry.new ≡ written entry.old (completion res sqhd sqid cid status) phase }
 {
-    entry::completion::write(entry, res, sqhd, sqid, cid, status, phase)
+    code(entry::completion::write(entry, res, sqhd, sqid, cid, status, phase))
 }
 
 // Reads the completion entry in the first 16 bytes of `entry`.
@@ -174,7 +172,7 @@ pub fn bellrafter_completion_read(entry: &[u8]) -> CompletionNumbers
     ensures { result ≡ completion_numbers (completion_read entry.now) }
 {
     match entry::completion::read(entry) {
-        CompletionRead::Entry(e, phase) => CompletionNumbers {
+        Ok((e, phase)) => CompletionNumbers {
             refusal: 0,
             result: e.result,
             sqhd: e.sqhd,
@@ -183,8 +181,8 @@ pub fn bellrafter_completion_read(entry: &[u8]) -> CompletionNumbers
             status: e.status,
             phase: phase as u32,
         },
-        CompletionRead::Refused(number) => CompletionNumbers {
-            refusal: number,
+        Err(refusal) => CompletionNumbers {
+            refusal: refusal.number(),
             result: 0,
             sqhd: 0,
             sqid: 0,
@@ -200,12 +198,9 @@ pub fn bellrafter_ring_read(ring: &[u8], size: u64, head: u64, phase: u64) -> Wa
     ensures { result ≡ waiting_numbers (ring_read ring.now size head phase) }
 {
     match ring::reader::read(ring, size, head, phase) {
-        Waiting::Count(count) => WaitingNumbers {
-            refusal: 0,
-            count: count,
-        },
-        Waiting::Refused(number) => WaitingNumbers {
-            refusal: number,
+        Ok(count) => WaitingNumbers { refusal: 0, count },
+        Err(refusal) => WaitingNumbers {
+            refusal: refusal.number(),
             count: 0,
         },
     }
@@ -215,14 +210,14 @@ pub fn bellrafter_ring_read(ring: &[u8], size: u64, head: u64, phase: u64) -> Wa
 pub fn bellrafter_tail_check(size: u64, head: u64, tail: u64, value: u64) -> u64
     ensures { result ≡ tail_check size head tail value }
 {
-    ring::doorbell::check_tail(size, head, tail, value)
+    code(ring::doorbell::check_tail(size, head, tail, value))
 }
 
 // The check of a head value for a completion queue.
 pub fn bellrafter_head_check(size: u64, head: u64, tail: u64, value: u64) -> u64
     ensures { result ≡ head_check size head tail value }
 {
-    ring::doorbell::check_head(size, head, tail, value)
+    code(ring::doorbell::check_head(size, head, tail, value))
 }
 
 // Walks the pages of `len` bytes at `prp1`, with the page size number `page`: 8 bytes of `addresses` and 4 of `counts` for each.
@@ -241,13 +236,13 @@ pub fn bellrafter_page_walk(
     ensures counts_after { counts.new ≡ put counts.old 0 (numbers 4 (byte_counts (page_size page) prp1 len result.pages)) }
 {
     match prp::walk(memory, prp1, prp2, len, page, addresses, counts) {
-        Walked::Pages(pages, reads) => PagesNumbers {
+        Ok(walked) => PagesNumbers {
             refusal: 0,
-            pages: pages,
-            reads: reads,
+            pages: walked.pages,
+            reads: walked.reads,
         },
-        Walked::Refused(number) => PagesNumbers {
-            refusal: number,
+        Err(refusal) => PagesNumbers {
+            refusal: refusal.number(),
             pages: 0,
             reads: 0,
         },

@@ -8,11 +8,11 @@ ghost use Rattle.controller.specs.State.{new_refusal, new_controller};
 ghost use Rattle.store.specs.Held.{held, Holds, Reached};
 ghost use Rattle.replay.specs.Replay.{replay};
 ghost use Rattle.rig.specs.Numbers.{start_numbers, finish_numbers, replay_numbers, no_sq_numbers, sq_numbers, no_cq_numbers, cq_numbers};
-ghost use Rattle.rig.specs.Numbers.{command_numbers, bit_of, remainder_number, arbiter_numbers};
+ghost use Rattle.rig.specs.Numbers.{command_numbers, remainder_number, arbiter_numbers};
 
 use arbiter::Remainder;
-use controller::{Finished, Started};
-use replay::Replayed;
+use controller::Started;
+use rules::refusal::code;
 use store::{Controller, WORDS, arbiter_of, command_at, cq_at, free_of, is_outstanding, sq_at};
 
 #[repr(C)]
@@ -100,7 +100,7 @@ pub struct ArbiterNumbers {
 pub fn bellrafter_controller_new(state: &mut [u64; WORDS], mechanism: u64, word: u32) -> u64
     ensures { (result ≡ new_refusal mechanism) × Holds state.new (new_controller mechanism word) }
 {
-    store::reset(state, mechanism, word)
+    code(store::reset(state, mechanism, word))
 }
 
 pub fn bellrafter_create_cq(
@@ -114,7 +114,7 @@ pub fn bellrafter_create_cq(
     ensures { let o = perform (held state.old) memory.now (create_cq id size base) in
         (result ≡ number_of o.answer) × Holds state.new o.controller }
 {
-    queues::create::create_cq(state, memory, id, size, base)
+    code(queues::create::create_cq(state, memory, id, size, base))
 }
 
 pub fn bellrafter_create_sq(
@@ -130,7 +130,7 @@ pub fn bellrafter_create_sq(
     ensures { let o = perform (held state.old) memory.now (create_sq id size base cq class) in
         (result ≡ number_of o.answer) × Holds state.new o.controller }
 {
-    queues::create::create_sq(state, memory, id, size, base, cq, class)
+    code(queues::create::create_sq(state, memory, id, size, base, cq, class))
 }
 
 pub fn bellrafter_delete_cq(state: &mut [u64; WORDS], id: u64) -> u64
@@ -138,7 +138,7 @@ pub fn bellrafter_delete_cq(state: &mut [u64; WORDS], id: u64) -> u64
     ensures { (m : Memory) → let o = perform (held state.old) m (delete_cq id) in
         (result ≡ number_of o.answer) × Holds state.new o.controller }
 {
-    queues::delete::delete_cq(state, id)
+    code(queues::delete::delete_cq(state, id))
 }
 
 pub fn bellrafter_delete_sq(state: &mut [u64; WORDS], id: u64) -> u64
@@ -146,7 +146,7 @@ pub fn bellrafter_delete_sq(state: &mut [u64; WORDS], id: u64) -> u64
     ensures { (m : Memory) → let o = perform (held state.old) m (delete_sq id) in
         (result ≡ number_of o.answer) × Holds state.new o.controller }
 {
-    queues::delete::delete_sq(state, id)
+    code(queues::delete::delete_sq(state, id))
 }
 
 pub fn bellrafter_tail_write(state: &mut [u64; WORDS], id: u64, value: u64) -> u64
@@ -154,7 +154,7 @@ pub fn bellrafter_tail_write(state: &mut [u64; WORDS], id: u64, value: u64) -> u
     ensures { (m : Memory) → let o = perform (held state.old) m (tail_write id value) in
         (result ≡ number_of o.answer) × Holds state.new o.controller }
 {
-    doorbells::tail_write(state, id, value)
+    code(doorbells::tail_write(state, id, value))
 }
 
 pub fn bellrafter_head_write(state: &mut [u64; WORDS], id: u64, value: u64) -> u64
@@ -162,7 +162,7 @@ pub fn bellrafter_head_write(state: &mut [u64; WORDS], id: u64, value: u64) -> u
     ensures { (m : Memory) → let o = perform (held state.old) m (head_write id value) in
         (result ≡ number_of o.answer) × Holds state.new o.controller }
 {
-    doorbells::head_write(state, id, value)
+    code(doorbells::head_write(state, id, value))
 }
 
 pub fn bellrafter_start(state: &mut [u64; WORDS], memory: &[u8]) -> StartNumbers
@@ -171,13 +171,15 @@ pub fn bellrafter_start(state: &mut [u64; WORDS], memory: &[u8]) -> StartNumbers
         (result ≡ start_numbers o.answer) × Holds state.new o.controller }
 {
     match starter::start(state, memory) {
-        Started::One {
-            sq,
-            tag,
-            slot,
-            verdict,
-            number,
-        } => StartNumbers {
+        Ok(
+            Started::One {
+                sq,
+                tag,
+                slot,
+                verdict,
+                number,
+            },
+        ) => StartNumbers {
             refusal: 0,
             sq: sq as u64,
             count: 1,
@@ -185,16 +187,18 @@ pub fn bellrafter_start(state: &mut [u64; WORDS], memory: &[u8]) -> StartNumbers
             second: 0,
             slot: slot as u64,
             verdict: verdict as u64,
-            number: number,
-        },
-        Started::Pair {
-            sq,
-            first,
-            second,
-            slot,
-            verdict,
             number,
-        } => StartNumbers {
+        },
+        Ok(
+            Started::Pair {
+                sq,
+                first,
+                second,
+                slot,
+                verdict,
+                number,
+            },
+        ) => StartNumbers {
             refusal: 0,
             sq: sq as u64,
             count: 2,
@@ -202,10 +206,10 @@ pub fn bellrafter_start(state: &mut [u64; WORDS], memory: &[u8]) -> StartNumbers
             second: second as u64,
             slot: slot as u64,
             verdict: verdict as u64,
-            number: number,
+            number,
         },
-        Started::Refused(refusal) => StartNumbers {
-            refusal: refusal,
+        Err(refusal) => StartNumbers {
+            refusal: refusal.number(),
             sq: 0,
             count: 0,
             first: 0,
@@ -229,13 +233,13 @@ pub fn bellrafter_finish(
         (result ≡ finish_numbers o.answer) × Holds state.new o.controller × (memory.new ≡ o.memory) }
 {
     match finisher::finish(state, memory, tag, status, res) {
-        Finished::Slot { slot, number } => FinishNumbers {
+        Ok(finished) => FinishNumbers {
             refusal: 0,
-            slot: slot as u64,
-            number: number,
+            slot: finished.slot as u64,
+            number: finished.number,
         },
-        Finished::Refused(refusal) => FinishNumbers {
-            refusal: refusal,
+        Err(refusal) => FinishNumbers {
+            refusal: refusal.number(),
             slot: 0,
             number: 0,
         },
@@ -255,28 +259,22 @@ pub fn bellrafter_replay(
         × (memory.new ≡ e.memory) × (answers.new ≡ e.room) }
 {
     match replay::replay(state, memory, trace, answers) {
-        Replayed::Records(records) => ReplayNumbers {
+        Ok(records) => ReplayNumbers {
             refusal: 0,
-            records: records,
+            records,
         },
-        Replayed::Refused(number) => ReplayNumbers {
-            refusal: number,
+        Err(refusal) => ReplayNumbers {
+            refusal: refusal.number(),
             records: 0,
         },
     }
-}
-
-fn bit(b: bool) -> u64
-    ensures { result ≡ bit_of b }
-{
-    if b { 1 } else { 0 }
 }
 
 fn no_sq(refusal: u64) -> SqNumbers
     ensures { result ≡ no_sq_numbers refusal }
 {
     SqNumbers {
-        refusal: refusal,
+        refusal,
         base: 0,
         size: 0,
         head: 0,
@@ -305,7 +303,7 @@ pub fn bellrafter_look_sq(state: &[u64; WORDS], id: u64) -> SqNumbers
         size: r.size as u64,
         head: r.head as u64,
         tail: r.tail as u64,
-        marked: bit(q.marked),
+        marked: u64::from(q.marked),
         cq: q.cq as u64,
         class: q.class as u64,
     }
@@ -315,7 +313,7 @@ fn no_cq(refusal: u64) -> CqNumbers
     ensures { result ≡ no_cq_numbers refusal }
 {
     CqNumbers {
-        refusal: refusal,
+        refusal,
         base: 0,
         size: 0,
         head: 0,
@@ -383,34 +381,19 @@ pub fn bellrafter_look_arbiter(state: &[u64; WORDS]) -> ArbiterNumbers
     ensures { result ≡ arbiter_numbers (held state.now).arbiter }
 {
     let a = arbiter_of(state);
-    let group = a.group;
-    let left = group.remainder;
-    let remainder = number_of(left);
-    let high = a.high;
-    let high_group = high.group;
-    let left = high_group.remainder;
-    let high_remainder = number_of(left);
-    let medium = a.medium;
-    let medium_group = medium.group;
-    let left = medium_group.remainder;
-    let medium_remainder = number_of(left);
-    let low = a.low;
-    let low_group = low.group;
-    let left = low_group.remainder;
-    let low_remainder = number_of(left);
     ArbiterNumbers {
-        mechanism: bit(a.weighted),
+        mechanism: u64::from(a.weighted),
         word: a.word as u64,
-        holder: group.holder as u64,
-        remainder: remainder,
-        high_holder: high_group.holder as u64,
-        high_remainder: high_remainder,
-        high_credit: high.credit as u64,
-        medium_holder: medium_group.holder as u64,
-        medium_remainder: medium_remainder,
-        medium_credit: medium.credit as u64,
-        low_holder: low_group.holder as u64,
-        low_remainder: low_remainder,
-        low_credit: low.credit as u64,
+        holder: a.group.holder as u64,
+        remainder: number_of(a.group.remainder),
+        high_holder: a.high.group.holder as u64,
+        high_remainder: number_of(a.high.group.remainder),
+        high_credit: a.high.credit as u64,
+        medium_holder: a.medium.group.holder as u64,
+        medium_remainder: number_of(a.medium.group.remainder),
+        medium_credit: a.medium.credit as u64,
+        low_holder: a.low.group.holder as u64,
+        low_remainder: number_of(a.low.group.remainder),
+        low_credit: a.low.credit as u64,
     }
 }

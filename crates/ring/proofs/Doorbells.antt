@@ -10,6 +10,9 @@ use borrow.Author.Tests.{leb-false, leb-true, le-leb, ltb-true, lt-ltb, le-ltb, 
 use Rattle.rules.specs.Rules.{first_match}
 use Rattle.rules.proofs.Tests.{and_true, and_no, range}
 use Rattle.rules.proofs.Tables.{Unapplied, passed, append_refused, append_passed}
+use Rattle.rules.specs.Refusal.{number}
+use Rattle.rules.specs.declared.refusal.Refusal.{Refusal}
+use Rattle.rules.proofs.Refusals.{number_not_0}
 use Rattle.rules.proofs.Exactly.{says_is, says_lt, says_le, says_and, says_as, says_same}
 use Rattle.ring.specs.Slots.{distance}
 use Rattle.ring.specs.Doorbell.{differs, valid_tail, valid_head, place_rules, place_refusal, checked}
@@ -88,15 +91,15 @@ module _ (size head tail v : ℕ) where
 
 -- ---- the plain checks
 
-module _ (size head tail n : ℕ) (valid : Bool) (e : n ≡ place_refusal size head tail) where
-  pub check_places : (n ≡ 0 → ⊥) → n ≡ checked size head tail valid
+module _ (size head tail : ℕ) (valid : Bool) where
+  pub check_places : (r : Refusal) → number r ≡ place_refusal size head tail → number r ≡ checked size head tail valid
   unfolding place_refusal checked
-  check_places h = e ∙ sym (append_refused (place_rules size head tail) ((not valid, 10) ∷ []) (λ z. h (e ∙ z)))
+  check_places r e = e ∙ sym (append_refused (place_rules size head tail) ((not valid, 10) ∷ []) (λ z. number_not_0 r (e ∙ z)))
 
-  module _ (z : n ≡ 0) where
+  module _ (e : 0 ≡ place_refusal size head tail) where
     places : Unapplied (place_rules size head tail)
     unfolding place_refusal
-    places = passed (place_rules size head tail) tt (sym e ∙ z)
+    places = passed (place_rules size head tail) tt (sym e)
 
     pub sound : (head < size) × (tail < size) × (size ≤ 1024)
     sound = (leb-false size head places.1.0, leb-false size tail places.1.1.0, (range 2 1024 size places.0).1)

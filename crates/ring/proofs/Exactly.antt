@@ -1,4 +1,5 @@
 -- Distances, valid doorbell values and the refusals of the reader and of the plain checks, once more in propositions. Assumes nothing.
+use Rattle.std.specs.Prelude.{Err}
 use Prim.Native.Nat.{ℕ, zero, suc, ◌+◌, ◌-◌, ◌*◌, ◌%◌, ◌≤◌, ◌<◌}
 use mathlib.Core.Bool.{Bool, not}
 use mathlib.Core.List.{List, [], ◌∷◌, ◌++◌}
@@ -14,7 +15,6 @@ use Rattle.rules.proofs.Exactly.{Says, says_is, says_lt, says_le, says_eq, says_
 use Rattle.ring.specs.Slots.{next, distance, phase_after}
 use Rattle.ring.specs.Doorbell.{valid_tail, valid_head, place_rules, checked, tail_check, head_check}
 use Rattle.ring.specs.Reader.{phase_in, read_count, reader_rules, reader_refusal, waiting_answer, ring_read}
-use Rattle.ring.specs.declared.reader.Waiting.TheVariants.{Refused}
 use Rattle.ring.proofs.Wrap.{Wrapped, low, high, wrapped}
 use Rattle.ring.proofs.Steps.{distance_ahead, distance_around, distance_self, next_on, next_over}
 use Rattle.ring.proofs.Doorbells.{valid_tail_lem, valid_head_lem, tail_adds, head_releases}
@@ -154,7 +154,7 @@ module _ (ring : List ℕ) (size head phase : ℕ) where
   -- the number that it answers is its refusal
   pub reader_number : (waiting_answer (ring_read ring size head phase)).0 ≡ reader_refusal (length ring) size head
   unfolding ring_read
-  reader_number = settle_number (λ r. (waiting_answer r).0) (reader_refusal (length ring) size head) Refused _ (λ k. refl) refl
+  reader_number = settle_number (λ r. (waiting_answer r).0) (reader_refusal (length ring) size head) Err _ (λ k. refl) refl
 
   pub reader_refusal_lem : Decided (reader_reasons (length ring) size head) (waiting_answer (ring_read ring size head phase)).0
   unfolding reader_refusal

@@ -1,12 +1,10 @@
 -- The reader of a completion ring.
-use Rattle.std.specs.Prelude.{ℕ, zero, suc, ◌*◌, ◌-◌, ◌%◌, List, [], ◌∷◌, ltb, leb, eqb, length}
+use Rattle.std.specs.Prelude.{ℕ, zero, suc, ◌*◌, ◌-◌, ◌%◌, List, [], ◌∷◌, ltb, leb, eqb, length, Result, Ok, Err}
 use Rattle.rules.specs.Rules.{pick, Table, first_match, settle}
 use Rattle.le.specs.Memory.{part}
 use Rattle.entry.specs.Completion.{completion_at, phase_tag}
 use Rattle.entry.specs.declared.completion.Completion.{Completion}
 use Rattle.ring.specs.Slots.{wrong_size, next, phase_after}
-use Rattle.ring.specs.declared.reader.Waiting.{Waiting}
-use Rattle.ring.specs.declared.reader.Waiting.TheVariants.{Count, Refused}
 
 -- the 16 bytes of slot p, and their phase tag
 unfoldable pub slot_in : List ℕ → ℕ → List ℕ
@@ -38,11 +36,11 @@ unfoldable pub reader_refusal : ℕ → ℕ → ℕ → ℕ
 reader_refusal n size head = first_match (reader_rules n size head)
 
 -- document 01's number and values for each answer: 0 and the count, or the refusal number and 0
-abbrev pub waiting_answer : Waiting → ℕ × ℕ
-waiting_answer (Count n) = (0, n)
-waiting_answer (Refused n) = (n, 0)
+abbrev pub waiting_answer : Result ℕ ℕ → ℕ × ℕ
+waiting_answer (Ok n) = (0, n)
+waiting_answer (Err n) = (n, 0)
 
 -- "It answers their number", the phase tag given being taken modulo 2
-unfoldable pub ring_read : List ℕ → ℕ → ℕ → ℕ → Waiting
+unfoldable pub ring_read : List ℕ → ℕ → ℕ → ℕ → Result ℕ ℕ
 ring_read ring size head phase =
-    settle (reader_refusal (length ring) size head) Refused (Count (read_count (size - 1) ring size head (phase % 2)))
+    settle (reader_refusal (length ring) size head) Err (Ok (read_count (size - 1) ring size head (phase % 2)))

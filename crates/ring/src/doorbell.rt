@@ -1,8 +1,10 @@
 // The plain doorbell checks.
 ghost use Rattle.std.specs.Prelude.{◌≡◌, ◌≤◌, ◌<◌};
+ghost use Rattle.rules.specs.Refusal.{code};
 ghost use Rattle.ring.specs.Doorbell.{valid_tail, valid_head, place_refusal, tail_check, head_check};
 
 use crate::slots::{distance_in, wrong_size};
+use rules::refusal::Refusal;
 
 // Whether a tail value is valid on a ring in order: it moves the tail, and not past the head.
 pub fn valid_tail(size: u64, head: u64, tail: u64, value: u64) -> bool
@@ -27,48 +29,42 @@ pub fn valid_head(size: u64, head: u64, tail: u64, value: u64) -> bool
     (0 < steps) & (steps <= distance_in(size, head, tail))
 }
 
-// What is wrong with the numbers of a ring: 0, or the refusal number.
-fn places(size: u64, head: u64, tail: u64) -> u64
-    ensures { result ≡ place_refusal size head tail }
+// Whether the numbers of a ring can be its own.
+fn places(size: u64, head: u64, tail: u64) -> Result<(), Refusal>
+    ensures { code result ≡ place_refusal size head tail }
 {
     if wrong_size(size) {
-        return 3;
+        return Err(Refusal::SizeOutOfRange);
     }
     if size <= head {
-        return 10;
+        return Err(Refusal::InvalidDoorbellValue);
     }
     if size <= tail {
-        return 10;
+        return Err(Refusal::InvalidDoorbellValue);
     }
-    0
+    Ok(())
 }
 
-// The check of a tail value for a submission queue: 0, or the refusal number.
-pub fn check_tail(size: u64, head: u64, tail: u64, value: u64) -> u64
-    ensures { result ≡ tail_check size head tail value }
+// The check of a tail value for a submission queue.
+pub fn check_tail(size: u64, head: u64, tail: u64, value: u64) -> Result<(), Refusal>
+    ensures { code result ≡ tail_check size head tail value }
 {
-    let refusal = places(size, head, tail);
-    if refusal != 0 {
-        return refusal;
-    }
+    places(size, head, tail)?;
     if valid_tail(size, head, tail, value) {
-        0
+        Ok(())
     } else {
-        10
+        Err(Refusal::InvalidDoorbellValue)
     }
 }
 
-// The check of a head value for a completion queue: 0, or the refusal number.
-pub fn check_head(size: u64, head: u64, tail: u64, value: u64) -> u64
-    ensures { result ≡ head_check size head tail value }
+// The check of a head value for a completion queue.
+pub fn check_head(size: u64, head: u64, tail: u64, value: u64) -> Result<(), Refusal>
+    ensures { code result ≡ head_check size head tail value }
 {
-    let refusal = places(size, head, tail);
-    if refusal != 0 {
-        return refusal;
-    }
+    places(size, head, tail)?;
     if valid_head(size, head, tail, value) {
-        0
+        Ok(())
     } else {
-        10
+        Err(Refusal::InvalidDoorbellValue)
     }
 }

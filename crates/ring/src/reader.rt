@@ -1,15 +1,10 @@
 // The reader of a completion ring.
 ghost use Rattle.std.specs.Prelude.{◌≡◌, ℕ, ◌+◌, ◌*◌, ◌-◌, ◌≤◌, ◌<◌, length};
+ghost use Rattle.rules.specs.Refusal.{code, by_number};
 ghost use Rattle.ring.specs.Reader.{phase_in, read_count, reader_refusal, waiting_answer, ring_read};
 
 use crate::slots::wrong_size;
-
-// How many completions wait, or the refusal number.
-#[derive(Clone, Copy)]
-pub enum Waiting {
-    Count(u64),
-    Refused(u64),
-}
+use rules::refusal::Refusal;
 
 // The phase tag of the entry in `slot`.
 fn phase_in(ring: &[u8], slot: u64) -> u64
@@ -24,14 +19,12 @@ fn run(ring: &[u8], slot: u64, most: u64, phase: u64) -> u64
     requires { (slot + most ≤ 1024) × (16 * (slot + most) ≤ length ring.now) }
     ensures { (result ≤ most) × ((size : ℕ) → slot + most ≤ size → result ≡ read_count most ring.now size slot phase) }
 {
-    let mut n: u64 = 0;
-    while n < most {
+    for n in 0..most {
         if phase_in(ring, slot + n) != phase {
             return n;
         }
-        n += 1;
     }
-    n
+    most
 }
 
 // How many entries in a row, from `head` on and at most size - 1, have the phase tag expected: up to the wrap, and from there on.
@@ -49,30 +42,28 @@ fn count(ring: &[u8], size: u64, head: u64, phase: u64) -> u64
     n + run(ring, 0, head - 1, 1 - phase)
 }
 
-fn refusal(bytes: usize, size: u64, head: u64) -> u64
-    ensures { result ≡ reader_refusal bytes size head }
+// Whether a ring of these bytes can be read from `head` on.
+fn readable(bytes: usize, size: u64, head: u64) -> Result<(), Refusal>
+    ensures { code result ≡ reader_refusal bytes size head }
 {
     if wrong_size(size) {
-        return 3;
+        return Err(Refusal::SizeOutOfRange);
     }
     let needed = 16 * size;
     if (bytes as u64) < needed {
-        return 5;
+        return Err(Refusal::RingOutsideMemory);
     }
     if size <= head {
-        return 10;
+        return Err(Refusal::InvalidDoorbellValue);
     }
-    0
+    Ok(())
 }
 
 // How many completions wait in a ring, for a reader that stands at `head` and expects `phase` there.
-pub fn read(ring: &[u8], size: u64, head: u64, phase: u64) -> Waiting
-    ensures value { result ≡ ring_read ring.now size head phase }
-    ensures refusal { (waiting_answer result).0 ≡ reader_refusal (length ring.now) size head }
+pub fn read(ring: &[u8], size: u64, head: u64, phase: u64) -> Result<u64, Refusal>
+    ensures value { by_number result ≡ ring_read ring.now size head phase }
+    ensures refusal { (waiting_answer (by_number result)).0 ≡ reader_refusal (length ring.now) size head }
 {
-    let number = refusal(ring.len(), size, head);
-    if number != 0 {
-        return Waiting::Refused(number);
-    }
-    Waiting::Count(count(ring, size, head, phase % 2))
+    readable(ring.len(), size, head)?;
+    Ok(count(ring, size, head, phase % 2))
 }

@@ -5,14 +5,15 @@
 ghost use Rattle.std.specs.Prelude.{◌<◌, ◌≤◌, length};
 ghost use Rattle.store.specs.Held.{Reached};
 
-use arbiter::{Arbiter, Candidates, Chosen};
+use arbiter::{Arbiter, Candidates};
 use controller::{Finished, Started};
 use doorbells::{head_write, tail_write};
 use entry::submission::Submission;
 use finisher::finish;
 use parse::line::{Word, next_word};
-use parse::number::{Number, value_of};
+use parse::number::value_of;
 use queues::create::{create_cq, create_sq};
+use rules::refusal::{Refusal, code};
 use starter::start;
 use std::io;
 use std::io::Read;
@@ -42,26 +43,47 @@ const CHOICES: u64 = 960;
 // What is read of the plan at most.
 const INPUT_BYTES: usize = 4096;
 
-// What the batches are made of.
-const TAILS: u64 = 1;
+// What the batches are made of, by the numbers of the plan from 0 on: an empty loop, tail writes that are accepted, commands, fused
+// pairs, and head writes of the value held, which are refused; then choices, where one queue is busy and comes right after the turn
+// holder, where it is the holder and comes last, and where many are busy.
+#[derive(Clone, Copy, PartialEq, Eq)]
+enum Kind {
+    Idle,
+    Tails,
+    Commands,
+    Pairs,
+    Held,
+    Nearest,
+    Farthest,
+    Busy,
+}
 
-const PAIRS: u64 = 3;
+impl From<u64> for Kind {
+    fn from(n: u64) -> Kind {
+        match n {
+            1 => Kind::Tails,
+            2 => Kind::Commands,
+            3 => Kind::Pairs,
+            4 => Kind::Held,
+            5 => Kind::Nearest,
+            6 => Kind::Farthest,
+            7 => Kind::Busy,
+            _ => Kind::Idle,
+        }
+    }
+}
 
-const HELD: u64 = 4;
+// The doorbells of a queue pair.
+#[derive(Clone, Copy)]
+enum Doorbell {
+    Tail,
+    Head,
+}
 
-const NEAREST: u64 = 5;
-
-const FARTHEST: u64 = 6;
-
-const BUSY: u64 = 7;
-
-// `kind` is 0 for an empty loop, 1 for tail writes that are accepted, 2 for commands, 3 for fused pairs and 4 for head writes of the
-// value held, which are refused; 5 to 7 are choices, where one queue is busy and comes right after the turn holder, where it is the
-// holder and comes last, and where many are busy. `busy` is the number of queues with commands, and `outstanding` that of the commands
-// which stay outstanding beside those of the batch.
+// `busy` is the number of queues with commands, and `outstanding` that of the commands which stay outstanding beside those of the batch.
 #[derive(Clone, Copy)]
 struct Plan {
-    kind: u64,
+    kind: Kind,
     mechanism: u64,
     busy: u64,
     outstanding: u64,
@@ -81,37 +103,41 @@ fn mixed(digest: u64, x: u64) -> u64 {
     (digest % 4294967296 * 31 + x % 4294967296) % 4294967296
 }
 
-fn of_started(answer: Started) -> u64 {
+fn of_started(answer: Result<Started, Refusal>) -> u64 {
     match answer {
-        Started::One {
-            sq,
-            tag,
-            slot,
-            verdict,
-            number,
-        } => 65536 * (verdict as u64) + 1024 * (slot as u64) + 16 * (tag as u64) + (sq as u64),
-        Started::Pair {
-            sq,
-            first,
-            second,
-            slot,
-            verdict,
-            number,
-        } => {
+        Ok(
+            Started::One {
+                sq,
+                tag,
+                slot,
+                verdict,
+                number,
+            },
+        ) => 65536 * (verdict as u64) + 1024 * (slot as u64) + 16 * (tag as u64) + (sq as u64),
+        Ok(
+            Started::Pair {
+                sq,
+                first,
+                second,
+                slot,
+                verdict,
+                number,
+            },
+        ) => {
             65536 * (verdict as u64)
                 + 1024 * (slot as u64)
                 + 16 * (first as u64)
                 + (second as u64)
                 + (sq as u64)
         }
-        Started::Refused(number) => number,
+        Err(refusal) => refusal.number(),
     }
 }
 
-fn of_finished(answer: Finished) -> u64 {
+fn of_finished(answer: Result<Finished, Refusal>) -> u64 {
     match answer {
-        Finished::Slot { slot, number } => slot as u64,
-        Finished::Refused(number) => number,
+        Ok(finished) => finished.slot as u64,
+        Err(refusal) => refusal.number(),
     }
 }
 
@@ -124,8 +150,8 @@ fn entry_of(slot: u64, pairs: bool) -> Submission {
         fuse = 1 + slot % 2;
     }
     Submission {
-        opc: opc,
-        fuse: fuse,
+        opc,
+        fuse,
         psdt: 0,
         cid: (slot % 65536) as u16,
         nsid: 1,
@@ -144,11 +170,9 @@ fn entry_of(slot: u64, pairs: bool) -> Submission {
 fn fill(memory: &mut [u8], id: u64, pairs: bool)
     requires { (id < 16) × (131072 ≤ length memory.old) }
 {
-    let mut slot: u64 = 0;
-    while slot < SIZE {
+    for slot in 0..SIZE {
         let at = (4096 * id + 64 * slot) as usize;
-        entry::submission::write(&mut memory[at..], entry_of(slot, pairs));
-        slot += 1;
+        let _ = entry::submission::write(&mut memory[at..], entry_of(slot, pairs));
     }
 }
 
@@ -156,12 +180,10 @@ fn create_queues(state: &mut [u64; WORDS], memory: &mut [u8], pairs: bool)
     requires { Reached state.old × (131072 ≤ length memory.old) }
     ensures { Reached state.new }
 {
-    let mut id: u64 = 0;
-    while id < QUEUES {
+    for id in 0..QUEUES {
         fill(memory, id, pairs);
-        create_cq(state, memory, id, SIZE, 4096 * (QUEUES + id));
-        create_sq(state, memory, id, SIZE, 4096 * id, id, id % 4);
-        id += 1;
+        let _ = create_cq(state, memory, id, SIZE, 4096 * (QUEUES + id));
+        let _ = create_sq(state, memory, id, SIZE, 4096 * id, id, id % 4);
     }
 }
 
@@ -172,6 +194,11 @@ fn first_of(busy: u64) -> u64
     if busy == 1 { 1 } else { 0 }
 }
 
+// A place of a ring, moved on by `n`.
+fn moved(place: u64, n: u64) -> u64 {
+    (place % SIZE + n % SIZE) % SIZE
+}
+
 // `n` tail writes on a copy of a controller whose queues are new: each moves its tail on by one, and is accepted. Before them goes a 1
 // into the digest, which then tells how many answers of 0 came.
 fn tails(state: &[u64; WORDS], run: Run, n: u64) -> Run
@@ -179,17 +206,13 @@ fn tails(state: &[u64; WORDS], run: Run, n: u64) -> Run
 {
     let mut copy = *state;
     let mut digest = mixed(run.digest, 1);
-    let mut i: u64 = 0;
-    while i < n {
-        digest = mixed(digest, tail_write(&mut copy, i % QUEUES, i / QUEUES + 1));
-        i += 1;
+    for i in 0..n {
+        digest = mixed(
+            digest,
+            code(tail_write(&mut copy, i % QUEUES, i / QUEUES + 1)),
+        );
     }
-    Run {
-        digest: digest,
-        tail: run.tail,
-        posted: run.posted,
-        tag: run.tag,
-    }
+    Run { digest, ..run }
 }
 
 // `n` head writes of the value that each new queue holds: each is refused. The digest as in `tails`.
@@ -198,17 +221,40 @@ fn held(state: &mut [u64; WORDS], run: Run, n: u64) -> Run
     ensures { Reached state.new }
 {
     let mut digest = mixed(run.digest, 1);
-    let mut i: u64 = 0;
-    while i < n {
-        digest = mixed(digest, head_write(state, i % QUEUES, 0));
-        i += 1;
+    for i in 0..n {
+        digest = mixed(digest, code(head_write(state, i % QUEUES, 0)));
     }
-    Run {
-        digest: digest,
-        tail: run.tail,
-        posted: run.posted,
-        tag: run.tag,
+    Run { digest, ..run }
+}
+
+// A value is written to a doorbell of a queue.
+fn write(state: &mut [u64; WORDS], doorbell: Doorbell, id: u64, value: u64) -> u64
+    requires { Reached state.old }
+    ensures { Reached state.new }
+{
+    match doorbell {
+        Doorbell::Tail => code(tail_write(state, id, value)),
+        Doorbell::Head => code(head_write(state, id, value)),
     }
+}
+
+// The same of each busy queue.
+fn write_each(
+    state: &mut [u64; WORDS],
+    digest: u64,
+    doorbell: Doorbell,
+    busy: u64,
+    value: u64,
+) -> u64
+    requires { Reached state.old × (busy ≤ 16) }
+    ensures { Reached state.new }
+{
+    let first = first_of(busy);
+    let mut digest = digest;
+    for id in first..first + busy {
+        digest = mixed(digest, write(state, doorbell, id, value));
+    }
+    digest
 }
 
 // `n` commands more are submitted to each busy queue.
@@ -216,19 +262,12 @@ fn submit(state: &mut [u64; WORDS], run: Run, busy: u64, n: u64) -> Run
     requires { Reached state.old × (busy ≤ 16) }
     ensures { Reached state.new }
 {
-    let tail = (run.tail % SIZE + n % SIZE) % SIZE;
-    let first = first_of(busy);
-    let mut digest = run.digest;
-    let mut i: u64 = 0;
-    while i < busy {
-        digest = mixed(digest, tail_write(state, first + i, tail));
-        i += 1;
-    }
+    let tail = moved(run.tail, n);
+    let digest = write_each(state, run.digest, Doorbell::Tail, busy, tail);
     Run {
-        digest: digest,
-        tail: tail,
-        posted: run.posted,
-        tag: run.tag,
+        digest,
+        tail,
+        ..run
     }
 }
 
@@ -237,19 +276,12 @@ fn release(state: &mut [u64; WORDS], run: Run, busy: u64, n: u64) -> Run
     requires { Reached state.old × (busy ≤ 16) }
     ensures { Reached state.new }
 {
-    let posted = (run.posted % SIZE + n % SIZE) % SIZE;
-    let first = first_of(busy);
-    let mut digest = run.digest;
-    let mut i: u64 = 0;
-    while i < busy {
-        digest = mixed(digest, head_write(state, first + i, posted));
-        i += 1;
-    }
+    let posted = moved(run.posted, n);
+    let digest = write_each(state, run.digest, Doorbell::Head, busy, posted);
     Run {
-        digest: digest,
-        tail: run.tail,
-        posted: posted,
-        tag: run.tag,
+        digest,
+        posted,
+        ..run
     }
 }
 
@@ -271,43 +303,31 @@ fn start_and_finish(
 {
     let mut digest = run.digest;
     let mut tag = run.tag;
-    let mut i: u64 = 0;
-    while i < n {
+    for i in 0..n {
         digest = mixed(digest, of_started(start(state, memory)));
-        let mut k: u64 = 0;
-        while k < finishes {
+        for _ in 0..finishes {
             let finished = finish(state, memory, tag, 0, (i % 4294967296) as u32);
             digest = mixed(digest, of_finished(finished));
             tag = next_tag(tag, last_tag);
-            k += 1;
         }
-        i += 1;
     }
-    Run {
-        digest: digest,
-        tail: run.tail,
-        posted: run.posted,
-        tag: tag,
-    }
+    Run { digest, tag, ..run }
 }
 
 // The candidates of a choice: one of queues 1 to 15 after another, always queue 1, or all queues, without queue 0 if fewer are busy.
 fn mask_of(p: Plan, place: usize) -> u16 {
-    if p.kind == NEAREST {
-        return 2u16 << (place % OTHERS);
+    match p.kind {
+        Kind::Nearest => 2u16 << (place % OTHERS),
+        Kind::Farthest => 2,
+        _ if p.busy < QUEUES => 65534,
+        _ => 65535,
     }
-    if p.kind == FARTHEST {
-        return 2;
-    }
-    if p.busy < QUEUES { 65534 } else { 65535 }
 }
 
 fn masks_of(p: Plan) -> [u16; OTHERS] {
     let mut masks = [0u16; OTHERS];
-    let mut i: usize = 0;
-    while i < OTHERS {
+    for i in 0..OTHERS {
         masks[i] = mask_of(p, i);
-        i += 1;
     }
     masks
 }
@@ -319,13 +339,12 @@ fn next_place(place: usize) -> usize
 }
 
 // A batch of choices of a fresh arbiter; under mechanism 1 all queues are of low priority. The digest as in `tails`.
-fn choices(mut run: Run, p: Plan) -> Run {
+fn choices(run: Run, p: Plan) -> Run {
     let masks = masks_of(p);
     let mut arbiter = Arbiter::new(p.mechanism == 1, TURNS);
     let mut digest = mixed(run.digest, 1);
     let mut place: usize = 0;
-    let mut i: u64 = 0;
-    while i < CHOICES {
+    for _ in 0..CHOICES {
         let mask = masks[place];
         let found = Candidates {
             all: mask,
@@ -334,28 +353,23 @@ fn choices(mut run: Run, p: Plan) -> Run {
             medium: 0,
             low: mask,
         };
-        let Chosen::Queue(id, left) = arbiter.choose(found) else {
+        let Some((id, left)) = arbiter.choose(found) else {
             return run;
         };
         arbiter = left;
         digest = mixed(digest, id as u64);
         place = next_place(place);
-        i += 1;
     }
-    run.digest = digest;
-    run
+    Run { digest, ..run }
 }
 
 // The loop without calls.
-fn idle(mut run: Run, n: u64) -> Run {
+fn idle(run: Run, n: u64) -> Run {
     let mut digest = run.digest;
-    let mut i: u64 = 0;
-    while i < n {
+    for i in 0..n {
         digest = mixed(mixed(digest, i), i);
-        i += 1;
     }
-    run.digest = digest;
-    run
+    Run { digest, ..run }
 }
 
 // A batch of commands: submitted, started and finished, and its completions released.
@@ -381,22 +395,14 @@ fn batch(state: &mut [u64; WORDS], run: Run, memory: &mut [u8; MEMORY_BYTES], p:
     ensures { Reached state.new }
 {
     let n = SUBMITTED * p.busy;
-    if p.kind == 0 {
-        return idle(run, n);
+    match p.kind {
+        Kind::Idle => idle(run, n),
+        Kind::Tails => tails(state, run, n),
+        Kind::Commands => round(state, run, memory, p.busy, n, 1, p.outstanding),
+        Kind::Pairs => round(state, run, memory, p.busy, n / 2, 2, p.outstanding + 1),
+        Kind::Held => held(state, run, n),
+        Kind::Nearest | Kind::Farthest | Kind::Busy => choices(run, p),
     }
-    if p.kind == TAILS {
-        return tails(state, run, n);
-    }
-    if p.kind == HELD {
-        return held(state, run, n);
-    }
-    if NEAREST <= p.kind {
-        return choices(run, p);
-    }
-    if p.kind == PAIRS {
-        return round(state, run, memory, p.busy, n / 2, 2, p.outstanding + 1);
-    }
-    round(state, run, memory, p.busy, n, 1, p.outstanding)
 }
 
 // 16 queues of each kind, and the commands that stay outstanding.
@@ -404,7 +410,7 @@ fn prepare(state: &mut [u64; WORDS], memory: &mut [u8; MEMORY_BYTES], p: Plan) -
     requires { Reached state.old }
     ensures { Reached state.new }
 {
-    create_queues(state, memory, p.kind == PAIRS);
+    create_queues(state, memory, p.kind == Kind::Pairs);
     let run = Run {
         digest: 0,
         tail: 0,
@@ -426,10 +432,8 @@ fn digest_of(p: Plan) -> u64
     let fresh = Controller::new(p.mechanism, WORD);
     let mut controller = fresh.controller;
     let mut run = prepare(&mut controller.words, &mut memory, p);
-    let mut i: u64 = 0;
-    while i < p.batches {
+    for _ in 0..p.batches {
         run = batch(&mut controller.words, run, &mut memory, p);
-        i += 1;
     }
     run.digest
 }
@@ -439,15 +443,10 @@ fn number(line: &[u8], word: Word, most: u64) -> u64
     requires { (word.start ≤ word.end) × (word.end ≤ length line.now) }
     ensures { result ≤ most }
 {
-    let start = word.start;
-    let end = word.end;
-    let Number::Is(n) = value_of(&line[start..end]) else {
-        return 0;
-    };
-    if most < n {
-        return 0;
+    match value_of(&line[word.start..word.end]) {
+        Some(n) if n <= most => n,
+        _ => 0,
     }
-    n
 }
 
 fn plan_of(line: &[u8]) -> Plan
@@ -459,7 +458,7 @@ fn plan_of(line: &[u8]) -> Plan
     let outstanding = next_word(line, busy.end);
     let batches = next_word(line, outstanding.end);
     Plan {
-        kind: number(line, kind, BUSY),
+        kind: Kind::from(number(line, kind, u64::MAX)),
         mechanism: number(line, mechanism, 1),
         busy: number(line, busy, QUEUES),
         outstanding: number(line, outstanding, 63),

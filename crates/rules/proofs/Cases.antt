@@ -2,10 +2,11 @@
 use Prim.Native.Nat.{ℕ, ◌≤◌}
 use mathlib.Core.Bool.{Bool, true, false, ◌&&◌}
 use mathlib.Core.List.{[], ◌∷◌}
-use mathlib.Core.Path.{◌≡◌, refl, sym, ◌∙◌}
+use mathlib.Core.Path.{◌≡◌, refl, sym, ap, ◌∙◌}
 use native.Mathlib.Omega.{arith}
 use lib.Dec.{T, eqb, leb, leb→le}
 use borrow.Author.Tests.{eqb-true, eqb-false}
+use Rattle.std.specs.Prelude.{Option, Some}
 use Rattle.rules.specs.Rules.{pick, Table, first_match, settle}
 use Rattle.rules.proofs.Tables.{both}
 
@@ -33,3 +34,9 @@ match_to n [] h = omega arith
 match_to n (r ∷ rs) h =
     let b = both (leb r.1 n) (numbers_to n rs) h in
     pick_cases (λ (k : ℕ). k ≤ n) r.0 r.1 (first_match rs) (λ e. leb→le r.1 n b.0) (λ e. match_to n rs b.1)
+
+-- two answers of a pair that are the same have the same parts
+pub some_both : {A B : Type 0} {x x' : A} {y y' : B} → ◌≡◌ {A = Option (A × B)} (Some (x, y)) (Some (x', y'))
+    → (x ≡ x') × (y ≡ y')
+some_both {A} {B} {x} {x'} {y} {y'} e =
+    let is : ◌≡◌ {A = A × B} (x, y) (x', y') = cc in (ap (λ (p : A × B). p.0) is, ap (λ (p : A × B). p.1) is)

@@ -1,2 +1,4 @@
-// Tables of rules of which the first that applies decides: refusals, and verdicts. Definitions and laws alone, and no code.
+// Refusals, by name and by number; and tables of rules of which the first that applies decides, which are definitions and laws alone.
 #![tactic(auto)]
+
+pub mod refusal;

@@ -1,47 +1,38 @@
 // The set-up: console lines that make the controller and the memory that a trace is replayed on.
 #![tactic(auto)]
 
-ghost use Rattle.std.specs.Prelude.{◌≡◌, ◌≤◌, length};
+ghost use Rattle.std.specs.Prelude.{◌≡◌, ◌≤◌, length, IfOk, MatchResult};
 ghost use Rattle.store.specs.Held.{Reached};
 ghost use Rattle.print.specs.Put.{Put};
 ghost use Rattle.lines.specs.Sizes.{held_bytes};
 ghost use Rattle.language.specs.Vocabulary.{memory_bytes};
 ghost use Rattle.conversation.specs.Sizes.{out_bytes};
-ghost use Rattle.conversation.specs.Steps.{Kept};
+ghost use Rattle.conversation.specs.Steps.{Kept, Short};
 ghost use Rattle.setup.specs.Refused.{refused_line};
 
-use conversation::{Conversation, OUT_BYTES, Step};
+use conversation::{Conversation, Event, OUT_BYTES, Step, Verdict};
 use form::Form;
 use language::sizes::{MEMORY_BYTES, NUMBERS, WALK_BYTES};
-use lines::{CHUNK_BYTES, Found, HELD_BYTES};
+use lines::{CHUNK_BYTES, HELD_BYTES};
 use parse::line::next_word;
 use std::io::{Read, Write};
 use store::WORDS;
+use stream::Errno;
 use transcript::setup_line::put_setup_line;
 
-// How a set-up has ended: all lines are answered; or, at the line of a number, that is bad, the file cannot be read, or the output not be
-// written, with the number of the error that is the reason.
-#[derive(Clone, Copy)]
-pub enum Ended {
-    Made,
+// Why no set-up is made: the line of a number is bad, or at it the file cannot be read, or the output not be written.
+#[derive(Clone, Copy, Debug)]
+pub enum Fault {
     Bad(u64),
-    Unread { line: u64, error: u64 },
-    Unwritten { line: u64, error: u64 },
+    Unread { line: u64, error: Errno },
+    Unwritten { line: u64, error: Errno },
 }
 
-// How many bytes of the memory are lent, and how it has ended.
-#[derive(Clone, Copy)]
-pub struct Setup {
-    pub lent: usize,
-    pub ended: Ended,
-}
-
-// A set-up on its way: whether it goes on, and if not how it has ended.
+// A set-up on its way, and whether its file goes on.
 #[derive(Clone, Copy)]
 struct Progress {
     conversation: Conversation,
     open: bool,
-    ended: Ended,
 }
 
 // What is told of a line whose call was refused, at the start of `out`.
@@ -56,83 +47,73 @@ fn put_refused(line: &[u8], number: u64, refusal: u64, out: &mut [u8]) -> usize
     put_setup_line(out, 0, number, &line[start..end], refusal)
 }
 
-// Tells it, and answers the number of the error for which the output could not be written, 0 for none.
-fn told(output: &mut impl Write, line: &[u8], number: u64, refusal: u64, out: &mut [u8]) -> u64
+// Tells it.
+fn tell(
+    output: &mut impl Write,
+    line: &[u8],
+    number: u64,
+    refusal: u64,
+    out: &mut [u8],
+) -> Result<(), Fault>
     requires { (length line.now ≤ held_bytes) × (out_bytes ≡ length out.old) }
 {
     let n = put_refused(line, number, refusal, out);
-    stream::write(output, &out[..n])
-}
-
-fn going(conversation: Conversation) -> Progress
-    ensures { result.conversation ≡ conversation }
-{
-    Progress {
-        conversation: conversation,
-        open: true,
-        ended: Ended::Made,
-    }
-}
-
-fn stopped(conversation: Conversation, ended: Ended) -> Progress
-    ensures { result.conversation ≡ conversation }
-{
-    Progress {
-        conversation: conversation,
-        open: false,
-        ended: ended,
-    }
-}
-
-// How it stands after a line, which was answered.
-fn judged(output: &mut impl Write, step: Step, line: &[u8], out: &mut [u8]) -> Progress
-    requires { (length line.now ≤ held_bytes) × (out_bytes ≡ length out.old) }
-    ensures { result.conversation ≡ step.conversation }
-{
-    let conversation = step.conversation;
-    let lines = conversation.lines;
-    if !step.good {
-        return stopped(conversation, Ended::Bad(lines.ended));
-    }
-    if step.refusal == 0 {
-        return going(conversation);
-    }
-    let error = told(output, line, lines.ended, step.refusal, out);
-    if error == 0 {
-        return going(conversation);
-    }
-    stopped(
-        conversation,
-        Ended::Unwritten {
-            line: lines.ended,
+    match stream::write(output, &out[..n]) {
+        Ok(()) => Ok(()),
+        Err(error) => Err(Fault::Unwritten {
+            line: number,
             error: error,
-        },
-    )
+        }),
+    }
+}
+
+// Looks at what came of a line.
+fn judge(
+    output: &mut impl Write,
+    verdict: Verdict,
+    line: &[u8],
+    number: u64,
+    out: &mut [u8],
+) -> Result<(), Fault>
+    requires { (length line.now ≤ held_bytes) × (out_bytes ≡ length out.old) }
+{
+    match verdict {
+        Verdict::Good => Ok(()),
+        Verdict::Bad => Err(Fault::Bad(number)),
+        Verdict::Refused(refusal) => tell(output, line, number, refusal, out),
+    }
 }
 
 // How it stands after a step; a line that ended stands at the start of `line`.
-fn after(output: &mut impl Write, step: Step, line: &[u8], out: &mut [u8]) -> Progress
-    requires { (step.length ≤ held_bytes) × (length line.now ≡ held_bytes) × (out_bytes ≡ length out.old) }
-    ensures { result.conversation ≡ step.conversation }
+fn after(
+    output: &mut impl Write,
+    step: Step,
+    line: &[u8],
+    out: &mut [u8],
+) -> Result<Progress, Fault>
+    requires { Short step.event × (length line.now ≡ held_bytes) × (out_bytes ≡ length out.old) }
+    ensures { IfOk result (λ p. p.conversation ≡ step.conversation) }
 {
     let conversation = step.conversation;
-    let lines = conversation.lines;
-    let found = step.found;
-    match found {
-        Found::Line => {
-            let n = step.length;
-            judged(output, step, &line[..n], out)
+    let ended = conversation.lines.ended;
+    let open = match step.event {
+        Event::Line { length, verdict } => {
+            judge(output, verdict, &line[..length], ended, out)?;
+            true
         }
-        Found::Nothing => going(conversation),
-        Found::End => stopped(conversation, Ended::Made),
-        Found::Failed(error) => stopped(
-            conversation,
-            Ended::Unread {
-                line: lines.ended.wrapping_add(1),
+        Event::Nothing => true,
+        Event::End => false,
+        Event::Failed(error) => {
+            return Err(Fault::Unread {
+                line: ended.wrapping_add(1),
                 error: error,
-            },
-        ),
-    }
+            });
+        }
+    };
+    Ok(Progress {
+        conversation: conversation,
+        open: open,
+    })
 }
 
 // Takes a step in the file. The last two buffers are to work in.
@@ -147,9 +128,9 @@ fn next(
     out: &mut [u8; OUT_BYTES],
     first: &mut [u8; WALK_BYTES],
     second: &mut [u8; WALK_BYTES],
-) -> Progress
+) -> Result<Progress, Fault>
     requires { Kept conversation state.old }
-    ensures { Kept result.conversation state.new }
+    ensures { MatchResult result (λ p. Kept p.conversation state.new) (λ _. Reached state.new) }
 {
     let mut numbers = [0u64; NUMBERS];
     let step = conversation::next(
@@ -169,25 +150,31 @@ fn next(
     after(output, step, line, out)
 }
 
-// Answers all lines, or those before one that stops it. A proved loop has to end: the turns are counted down, from a number that no run
-// uses up.
+// Answers all lines, or those before one that stops it, and tells how many bytes of the memory are lent. A proved loop has to end: the
+// turns are bounded by a number that no run uses up.
 pub fn run(
     input: &mut impl Read,
     output: &mut impl Write,
     state: &mut [u64; WORDS],
     memory: &mut [u8; MEMORY_BYTES],
-) -> Setup
+) -> Result<usize, Fault>
     requires { Reached state.old }
-    ensures { Reached state.new × (result.lent ≤ memory_bytes) }
+    ensures reached { Reached state.new }
+    ensures lent { IfOk result (λ n. n ≤ memory_bytes) }
 {
     let mut chunk = [0u8; CHUNK_BYTES];
     let mut line = [0u8; HELD_BYTES];
     let mut out = [0u8; OUT_BYTES];
     let mut first = [0u8; WALK_BYTES];
     let mut second = [0u8; WALK_BYTES];
-    let mut s = going(conversation::first());
-    let mut turns = u64::MAX;
-    while turns > 0 && s.open {
+    let mut s = Progress {
+        conversation: conversation::first(),
+        open: true,
+    };
+    for _ in 0..u64::MAX {
+        if !s.open {
+            break;
+        }
         s = next(
             input,
             output,
@@ -199,13 +186,7 @@ pub fn run(
             &mut out,
             &mut first,
             &mut second,
-        );
-        turns -= 1;
+        )?;
     }
-    let conversation = s.conversation;
-    let ended = s.ended;
-    Setup {
-        lent: conversation.lent,
-        ended: ended,
-    }
+    Ok(s.conversation.lent)
 }

@@ -13,7 +13,7 @@ use Rattle.parse.specs.Arguments.{arguments_in}
 use Rattle.print.proofs.Puts.{put_none}
 use Rattle.stateless.specs.declared.speak.Answered as code
 use Rattle.language.specs.declared.command.Command.{Command}
-use Rattle.language.specs.declared.vocabulary.Named.TheVariants as N
+use Rattle.std.specs.Prelude.{Some, None}
 use Rattle.language.specs.Vocabulary.{memory_bytes, form, named}
 use Rattle.language.specs.State.{Console, console}
 use Rattle.language.specs.Replies.{Said, bad}
@@ -24,11 +24,11 @@ use Rattle.shell.specs.Leaving.{Spoke, Leaves}
 -- ---- what a line comes to
 
 module _ (s : Console) (n : ℕ) (w : List ℕ) (ws : List (List ℕ)) where
-  pub no_command : named w ≡ N.Nothing → saying w n (bad, s) ≡ by_words s n (w ∷ ws)
+  pub no_command : named w ≡ None → saying w n (bad, s) ≡ by_words s n (w ∷ ws)
   unfolding by_words asked
   no_command e = rw e
 
-  module _ (k : Command) (e : named w ≡ N.Command k) where
+  module _ (k : Command) (e : named w ≡ Some k) where
     pub bad_arguments : (arguments_in (form k).largest (form k).rest ws).good ≡ false → saying w n (bad, s) ≡ by_words s n (w ∷ ws)
     unfolding by_words asked
     bad_arguments h = rw (e, h)

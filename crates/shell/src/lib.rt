@@ -13,7 +13,7 @@ ghost use Rattle.shell.specs.Leaving.{Ready, Working, Leaves};
 use crate::obey::obey;
 use language::command::form_of;
 use language::sizes::NUMBERS;
-use language::vocabulary::{Named, command_of};
+use language::vocabulary::command_of;
 use parse::arguments::read;
 use parse::line::{MOST_BYTES, next_word};
 use stateless::speak::{Answered, say_bad};
@@ -41,17 +41,16 @@ fn execute(
         (take (end - start) (drop start line.now) ∷ words_of (drop end line.now)))
         out.old out.new result state.new memory.new }
 {
-    let Named::Command(command) = command_of(&line[start..end]) else {
+    let Some(command) = command_of(&line[start..end]) else {
         return say_bad(out, number, lent);
     };
     let form = form_of(command);
     let largest = form.largest;
     let count = form.count;
     let rest = form.rest;
-    let given = read(line, end, &largest[..count], rest, numbers, first);
-    if !given.good {
+    let Some(given) = read(line, end, &largest[..count], rest, numbers, first) else {
         return say_bad(out, number, lent);
-    }
+    };
     obey(
         state,
         memory,
@@ -94,7 +93,7 @@ pub fn answer(
     if start == end {
         return Answered {
             length: 0,
-            lent: lent,
+            lent,
             good: true,
             refusal: 0,
         };

@@ -1,4 +1,3 @@
 pub mod Masks
 pub mod Verdicts
-pub mod Heads
 pub mod Takings

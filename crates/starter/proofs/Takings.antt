@@ -1,26 +1,22 @@
 -- Laws of what a start takes. Assumes nothing.
-use Prim.Native.Nat.{ℕ, ◌+◌, ◌-◌, ◌%◌, ◌≤◌, ◌<◌}
+use Rattle.std.specs.Prelude.{Option, Some, None, Ok}
+use Prim.Native.Nat.{ℕ, ◌+◌, ◌≤◌, ◌<◌}
 use mathlib.Core.Bool.{Bool, true, false, ◌||◌}
-use mathlib.Core.Path.{◌≡◌, refl, sym, ◌∙◌}
-use native.Mathlib.Nat.{mod-eq_of_lt, mod-eq-sub-mod}
+use mathlib.Core.Path.{◌≡◌, refl}
 use native.Mathlib.Omega.{arith}
 use lib.ListN.{length, set}
 use borrow.Author.Tests.{lt-ltb, le-ltb}
 use Rattle.rules.specs.Rules.{settle}
 use Rattle.bits.specs.Tags.{taken_one, taken_two}
-use Rattle.bits.specs.declared.TakenOne.TheVariants.{Tag, NoneFree}
-use Rattle.bits.specs.declared.TakenTwo.TheVariants.{Tags, TooFew}
 use Rattle.le.specs.Memory.{Memory}
 use Rattle.entry.specs.declared.submission.Submission.{Submission}
 use Rattle.ring.specs.Slots.{next}
 use Rattle.arbiter.specs.Arbiter.{choice}
 use Rattle.arbiter.specs.declared.Arbiter.{Arbiter}
-use Rattle.arbiter.specs.declared.Chosen.{Chosen}
-use Rattle.arbiter.specs.declared.Chosen.TheVariants.{Queue}
 use Rattle.controller.specs.declared.SubmissionQueue.{SubmissionQueue}
 use Rattle.controller.specs.declared.Started.TheVariants as S
 use Rattle.controller.specs.Controller.{Controller}
-use Rattle.controller.specs.State.{sq_at, with_head, sq_with_ring, with_sq, with_commands, with_next_number}
+use Rattle.controller.specs.State.{sq_at, with_sq, with_commands, with_next_number}
 use Rattle.controller.specs.Rings.{outside}
 use Rattle.controller.specs.Verdict.{verdict_one, verdict_pair}
 use Rattle.controller.specs.Valid.{Valid}
@@ -38,75 +34,58 @@ or_same : (b : Bool) → (b || b) ≡ b
 or_same true = refl
 or_same false = refl
 
--- a slot past the last
-pub wraps : (s x : ℕ) → s ≤ x → x < s + s → x - s ≡ x % s
-wraps s x g h = sym (mod-eq-sub-mod g ∙ mod-eq_of_lt (omega arith))
-
--- ---- the stores, one after another
-
-module _ (c : Controller) where
-  pub passed_on : (i n : ℕ) {q : SubmissionQueue} → q ≡ sq_at c i → {v : ℕ} → v ≡ (q.ring.head + n) % q.ring.size
-      → {d : Controller} → d ≡ with_sq c i (sq_with_ring (sq_at c i) (with_head (sq_at c i).ring v))
-      → d ≡ with_sq c i (passed (sq_at c i) n)
-  passed_on i n e f g = rw (g, f, e)
-
-  pub left_with : (d e f : Controller) (free : ℕ) (a : Arbiter) (n : ℕ) → d ≡ with_commands c c.commands free c.arbiter
-      → e ≡ with_commands d d.commands d.free a → f ≡ with_next_number e n
-      → f ≡ with_next_number (with_commands c c.commands free a) n
-  left_with d e f free a n p q r = rw (r, q, p)
-
 -- ---- what is taken from queue id, with the arbiter a left
 
 module _ (c : Controller) (m : Memory) (id : ℕ) (a : Arbiter) (e : Submission) where
-  pub one_refused : taken_one c.free ≡ NoneFree → refusing c m 13 ≡ take_one c m id a e
+  pub one_refused : taken_one c.free ≡ None → refusing c m 13 ≡ take_one c m id a e
   unfolding take_one
   one_refused q = rw q
 
-  pub one_numberless : {t left : ℕ} → taken_one c.free ≡ Tag t left → {n : ℕ} → n ≡ c.next_number → last_number < n
+  pub one_numberless : {t left : ℕ} → taken_one c.free ≡ Some (t, left) → {n : ℕ} → n ≡ c.next_number → last_number < n
       → refusing c m 32 ≡ take_one c m id a e
   unfolding take_one settle
   one_numberless q i l = rw (q, ← i, lt-ltb _ _ l)
 
   -- the head moves, then the command is stored, then the tags, the turn and the next number that are left
-  pub one_started : {t left : ℕ} → taken_one c.free ≡ Tag t left
+  pub one_started : {t left : ℕ} → taken_one c.free ≡ Some (t, left)
       → {u : Bool} → u ≡ (used c id e || used c id e) → {v : ℕ} → v ≡ verdict_one id e u
       → {slot : ℕ} → slot ≡ (sq_at c id).ring.head → {n : ℕ} → n ≡ c.next_number → n ≤ last_number
       → (d k l : Controller) → d ≡ with_sq c id (passed (sq_at c id) 1)
       → k ≡ with_commands d (set d.commands t (command id e.cid v 0 0 n)) d.free d.arbiter
       → l ≡ with_next_number (with_commands k k.commands left a) (n + 1)
-      → outcome (of_started (S.One id t slot v n)) l m ≡ take_one c m id a e
+      → outcome (of_started (Ok (S.One id t slot v n))) l m ≡ take_one c m id a e
   unfolding take_one one_taken settle
   one_started q x y s {n} i b d k l f g w = rw (w, g, f, s, y, x, or_same, q, ← i, le-ltb last_number n b)
 
 module _ (c : Controller) (m : Memory) (id : ℕ) (a : Arbiter) (e f : Submission) where
-  pub pair_refused : taken_two c.free ≡ TooFew → refusing c m 13 ≡ take_pair c m id a e f
+  pub pair_refused : taken_two c.free ≡ None → refusing c m 13 ≡ take_pair c m id a e f
   unfolding take_pair
   pair_refused q = rw q
 
-  pub pair_numberless : {t u left : ℕ} → taken_two c.free ≡ Tags t u left → {n : ℕ} → n ≡ c.next_number → last_number ≤ n
+  pub pair_numberless : {t u left : ℕ} → taken_two c.free ≡ Some (t, u, left) → {n : ℕ} → n ≡ c.next_number → last_number ≤ n
       → refusing c m 32 ≡ take_pair c m id a e f
   unfolding take_pair settle
   pair_numberless q {n} i l = rw (q, ← i, lt-ltb last_number (n + 1) (omega arith))
 
-  pub pair_started : {t u left : ℕ} → taken_two c.free ≡ Tags t u left
+  pub pair_started : {t u left : ℕ} → taken_two c.free ≡ Some (t, u, left)
       → {v : ℕ} → v ≡ verdict_pair e f (used c id e) (used c id f)
       → {slot : ℕ} → slot ≡ (sq_at c id).ring.head → {n : ℕ} → n ≡ c.next_number → n < last_number
       → (d j k l : Controller) → d ≡ with_sq c id (passed (sq_at c id) 2)
       → j ≡ with_commands d (set d.commands t (command id e.cid v 0 (u + 1) n)) d.free d.arbiter
       → k ≡ with_commands j (set j.commands u (command id f.cid v (t + 1) 0 (n + 1))) j.free j.arbiter
       → l ≡ with_next_number (with_commands k k.commands left a) (n + 2)
-      → outcome (of_started (S.Pair id t u slot v n)) l m ≡ take_pair c m id a e f
+      → outcome (of_started (Ok (S.Pair id t u slot v n))) l m ≡ take_pair c m id a e f
   unfolding take_pair pair_taken settle
   pair_started q y s {n} x b d j k l p g w z = rw (z, w, g, p, s, y, q, ← x, le-ltb last_number (n + 1) (omega arith))
 
 -- by what stands at the head of the queue that was read
 module _ (c : Controller) (m : Memory) (id : ℕ) (a : Arbiter) {q : SubmissionQueue} (e : q ≡ sq_at c id) {p : Bool}
     (f : p ≡ is_pair id q.ring m) {x : Submission} (g : x ≡ entry_at m q.ring q.ring.head) {o : Outcome} where
-  pub from_one : p ≡ false → o ≡ take_one c m id a x → o ≡ take_from c m (Queue id a)
+  pub from_one : p ≡ false → o ≡ take_one c m id a x → o ≡ take_from c m (Some (id, a))
   from_one n k = rw (← e, ← f, n, ← g) k
 
   pub from_pair : p ≡ true → {y : Submission} → y ≡ entry_at m q.ring (next q.ring.size q.ring.head)
-      → o ≡ take_pair c m id a x y → o ≡ take_from c m (Queue id a)
+      → o ≡ take_pair c m id a x y → o ≡ take_from c m (Some (id, a))
   from_pair n h k = rw (← e, ← f, n, ← g, ← h) k
 
 -- ---- the start
@@ -116,13 +95,14 @@ module _ (c : Controller) (m : Memory) where
   unfolding start settle
   start_outside o = rw o
 
-  pub start_chosen : outside c (length m) ≡ false → {x : Chosen} → choice c.arbiter (candidates c) ≡ x → take_from c m x ≡ start c m
+  pub start_chosen : outside c (length m) ≡ false → {x : Option (ℕ × Arbiter)} → choice c.arbiter (candidates c) ≡ x
+      → take_from c m x ≡ start c m
   unfolding start settle
   start_chosen o e = rw (o, e)
 
 -- the queue chosen exists, and its ring is sound and lies in the memory
 pub ready : (c : Controller) (n : ℕ) → Valid c → outside c n ≡ false → {id : ℕ} {a : Arbiter}
-    → choice c.arbiter (candidates c) ≡ Queue id a
+    → choice c.arbiter (candidates c) ≡ Some (id, a)
     → (id < 16) × Inside n (sq_at c id).ring
 ready c n v o {id} e =
     let k = chosen c e in

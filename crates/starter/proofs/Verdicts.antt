@@ -1,6 +1,6 @@
--- Laws of CIDs in use and of the verdicts. Assumes nothing.
+-- Laws of CIDs in use. Assumes nothing.
 use Prim.Native.Nat.{ℕ, ◌-◌, ◌^◌, ◌<◌}
-use mathlib.Core.Bool.{Bool, true, false, ◌&&◌, ◌||◌, or-true, or_assoc}
+use mathlib.Core.Bool.{Bool, true, false, ◌&&◌, ◌||◌, or-true}
 use mathlib.Core.List.{List}
 use mathlib.Core.Logic.{⊎_elim}
 use mathlib.Core.Path.{◌≡◌, refl, sym, ap, ◌∙◌}
@@ -19,10 +19,6 @@ use Rattle.bits.proofs.Tags.{OneTaken, lowest_taken}
 use Rattle.controller.specs.declared.Command.{Command}
 use Rattle.controller.specs.State.{no_command, outstanding}
 use Rattle.controller.specs.Verdict.{uses, in_use}
-
--- the last rule on a pair, by whether one of the CIDs is in use
-pub cids_clash : (x y d : Bool) {u t : Bool} → u ≡ (x || y) → (u || d) ≡ t → (x || (y || d)) ≡ t
-cids_clash x y d e h = sym (or_assoc x y d) ∙ ap (λ (b : Bool). b || d) (sym e) ∙ h
 
 split : (t s x y : Bool) → (t && (s && (x || y))) ≡ ((t && (s && x)) || (t && (s && y)))
 split true true x y = refl

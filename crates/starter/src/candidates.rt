@@ -11,6 +11,7 @@ use controller::SubmissionQueue;
 use store::{WORDS, sq_at};
 
 // Whether a queue of a controller is a candidate.
+#[tactic(auto, unfolding(controller::specs::Starting::candidate_at))]
 fn is_candidate(q: SubmissionQueue) -> bool
     ensures { (c : Controller) (i : ℕ) → q ≡ sq_at c i → result ≡ candidate_at c i }
 {
@@ -27,14 +28,12 @@ fn masks_of(state: &[u64; WORDS]) -> u64
     ensures { result ≡ stacked (held state.now) 16 }
 {
     let mut masks: u64 = 0;
-    let mut i: usize = 0;
-    while i < store::Controller::QUEUES {
+    for i in 0..store::Controller::QUEUES {
         let q = sq_at(state, i);
         if is_candidate(q) {
             let place = store::Controller::QUEUES * (q.class as usize) + i;
-            masks = masks + (1 << place);
+            masks += 1 << place;
         }
-        i += 1;
     }
     masks
 }
@@ -51,9 +50,9 @@ pub(crate) fn candidates_of(state: &[u64; WORDS]) -> Candidates
     let low = (masks / 281474976710656) as u16;
     Candidates {
         all: urgent + high + medium + low,
-        urgent: urgent,
-        high: high,
-        medium: medium,
-        low: low,
+        urgent,
+        high,
+        medium,
+        low,
     }
 }

@@ -6,40 +6,9 @@ ghost use Rattle.controller.specs.Starting.{entry_at, is_pair};
 ghost use Rattle.starter.specs.Inside.{Inside};
 
 use controller::Ring;
-use entry::submission::{Submission, SubmissionRead};
+use entry::submission::Submission;
 use ring::slots::{distance_in, next_slot};
 use store::Controller;
-
-// What stands for no entry, where a reader refuses.
-fn blank() -> Submission {
-    Submission {
-        opc: 0,
-        fuse: 0,
-        psdt: 0,
-        cid: 0,
-        nsid: 0,
-        mptr: 0,
-        prp1: 0,
-        prp2: 0,
-        slba: 0,
-        nlb: 0,
-        cdw12_upper: 0,
-        cdw13: 0,
-        cdw14: 0,
-        cdw15: 0,
-    }
-}
-
-// The entry in the first 64 bytes. They are there, so the reader does not refuse.
-fn read(bytes: &[u8]) -> Submission
-    requires { 64 ≤ length bytes.now }
-    ensures { result ≡ submission_at bytes.now }
-{
-    let SubmissionRead::Entry(e) = entry::submission::read(bytes) else {
-        return blank();
-    };
-    e
-}
 
 // The entry in slot p of the ring.
 fn entry_at(memory: &[u8], r: Ring, p: u64) -> Submission
@@ -49,7 +18,7 @@ fn entry_at(memory: &[u8], r: Ring, p: u64) -> Submission
     let place = r.base + Controller::SUBMISSION_BYTES * p;
     let from = place as usize;
     let to = (place + Controller::SUBMISSION_BYTES) as usize;
-    read(&memory[from..to])
+    entry::submission::read(&memory[from..to]).unwrap()
 }
 
 // The entry at the head, and the one after it.
@@ -70,6 +39,7 @@ pub(crate) fn second_entry(memory: &[u8], r: Ring) -> Submission
 
 // Whether a pair stands at the head of queue id. Nothing at or past the tail is read: the next slot only if at least two entries are
 // submitted.
+#[tactic(auto, unfolding(controller::specs::Starting::is_pair))]
 pub(crate) fn is_pair(memory: &[u8], id: u8, r: Ring) -> bool
     requires { Inside (length memory.now) r }
     ensures { result ≡ is_pair id r memory.now }

@@ -1,18 +1,19 @@
 // Taking a command, or a pair, from the queue that was chosen.
 ghost use Rattle.std.specs.Prelude.{◌≡◌, ◌+◌, ◌%◌, ◌≤◌, ◌<◌};
 ghost use Rattle.le.specs.Memory.{Memory};
+ghost use Rattle.rules.specs.Refusal.{by_number};
 ghost use Rattle.controller.specs.Answers.{outcome};
 ghost use Rattle.controller.specs.Calls.{of_started};
-ghost use Rattle.controller.specs.Starting.{passed, take_one, take_pair};
+ghost use Rattle.controller.specs.Starting.{passed, command, take_one, take_pair};
 ghost use Rattle.controller.specs.State.{sq_at, with_sq, with_commands, with_next_number};
 ghost use Rattle.controller.specs.Valid.{RingOk};
 ghost use Rattle.store.specs.Held.{held, Sound, Holds};
 
 use crate::verdict::{in_use, verdict_one, verdict_pair};
 use arbiter::Arbiter;
-use bits::{TakenOne, TakenTwo};
 use controller::{Command, Ring, Started};
 use entry::submission::Submission;
+use rules::refusal::Refusal;
 use store::{
     Controller, WORDS, free_of, next_number, put_arbiter, put_command, put_free, put_next_number,
     put_sq_head, sq_at,
@@ -51,42 +52,50 @@ fn leave(state: &mut [u64; WORDS], free: u64, arbiter: Arbiter, number: u64)
     put_next_number(state, number);
 }
 
+// A command that is linked to no other.
+fn command(sq: u8, cid: u16, verdict: u16, number: u64) -> Command
+    ensures { result ≡ command sq cid verdict 0 0 number }
+{
+    Command {
+        sq,
+        cid,
+        verdict,
+        first: 0,
+        second: 0,
+        number,
+    }
+}
+
 // The entry e at the head of queue id is taken with the lowest free tag.
-pub(crate) fn take_one(state: &mut [u64; WORDS], id: u8, next: Arbiter, e: Submission) -> Started
+pub(crate) fn take_one(
+    state: &mut [u64; WORDS],
+    id: u8,
+    next: Arbiter,
+    e: Submission,
+) -> Result<Started, Refusal>
     requires { (id < 16) × Sound state.old × RingOk (sq_at (held state.old) id).ring }
-    ensures { Sound state.new × ((m : Memory) → outcome (of_started result) (held state.new) m
+    ensures { Sound state.new × ((m : Memory) → outcome (of_started (by_number result)) (held state.new) m
         ≡ take_one (held state.old) m id next e) }
 {
-    let TakenOne::Tag(tag, left) = bits::take_one(free_of(state)) else {
-        return Started::Refused(13);
+    let Some((tag, left)) = bits::take_one(free_of(state)) else {
+        return Err(Refusal::TooFewTags);
     };
     let number = next_number(state);
     if Controller::LAST_NUMBER < number {
-        return Started::Refused(32);
+        return Err(Refusal::NumbersUsedUp);
     }
     let t = tag as u8;
     let verdict = verdict_one(id, e, in_use(state, id, e.cid, e.cid));
     let slot = pass(state, id as usize, 1);
-    put_command(
-        state,
-        tag as usize,
-        Command {
-            sq: id,
-            cid: e.cid,
-            verdict: verdict,
-            first: 0,
-            second: 0,
-            number: number,
-        },
-    );
+    put_command(state, tag as usize, command(id, e.cid, verdict, number));
     leave(state, left, next, number + 1);
-    Started::One {
+    Ok(Started::One {
         sq: id,
         tag: t,
-        slot: slot,
-        verdict: verdict,
-        number: number,
-    }
+        slot,
+        verdict,
+        number,
+    })
 }
 
 // The entries e and f at the head of queue id are taken with the two lowest free tags, each half linked to the other.
@@ -96,17 +105,17 @@ pub(crate) fn take_pair(
     next: Arbiter,
     e: Submission,
     f: Submission,
-) -> Started
+) -> Result<Started, Refusal>
     requires { (id < 16) × Sound state.old × RingOk (sq_at (held state.old) id).ring }
-    ensures { Sound state.new × ((m : Memory) → outcome (of_started result) (held state.new) m
+    ensures { Sound state.new × ((m : Memory) → outcome (of_started (by_number result)) (held state.new) m
         ≡ take_pair (held state.old) m id next e f) }
 {
-    let TakenTwo::Tags(first, second, left) = bits::take_two(free_of(state)) else {
-        return Started::Refused(13);
+    let Some((first, second, left)) = bits::take_two(free_of(state)) else {
+        return Err(Refusal::TooFewTags);
     };
     let number = next_number(state);
     if Controller::LAST_NUMBER <= number {
-        return Started::Refused(32);
+        return Err(Refusal::NumbersUsedUp);
     }
     let t = first as u8;
     let u = second as u8;
@@ -116,33 +125,25 @@ pub(crate) fn take_pair(
         state,
         first as usize,
         Command {
-            sq: id,
-            cid: e.cid,
-            verdict: verdict,
-            first: 0,
             second: u + 1,
-            number: number,
+            ..command(id, e.cid, verdict, number)
         },
     );
     put_command(
         state,
         second as usize,
         Command {
-            sq: id,
-            cid: f.cid,
-            verdict: verdict,
             first: t + 1,
-            second: 0,
-            number: number + 1,
+            ..command(id, f.cid, verdict, number + 1)
         },
     );
     leave(state, left, next, number + 2);
-    Started::Pair {
+    Ok(Started::Pair {
         sq: id,
         first: t,
         second: u,
-        slot: slot,
-        verdict: verdict,
-        number: number,
-    }
+        slot,
+        verdict,
+        number,
+    })
 }

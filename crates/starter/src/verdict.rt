@@ -23,12 +23,13 @@ pub(crate) fn in_use(state: &[u64; WORDS], sq: u8, a: u16, b: u16) -> bool
         if (k.sq == sq) & ((k.cid == a) | (k.cid == b)) {
             return true;
         }
-        left = left - (1u64 << t);
+        left -= 1u64 << t;
     }
     false
 }
 
 // The verdict on a command that is taken alone; `used` says whether its CID is in use.
+#[tactic(auto, unfolding(controller::specs::Verdict::verdict_one))]
 pub(crate) fn verdict_one(id: u8, e: Submission, used: bool) -> u16
     ensures { result ≡ verdict_one id e used }
 {
@@ -56,6 +57,7 @@ pub(crate) fn verdict_one(id: u8, e: Submission, used: bool) -> u16
 }
 
 // The verdict on a pair; `used` says whether one of its CIDs is in use.
+#[tactic(auto, unfolding(controller::specs::Verdict::verdict_pair))]
 pub(crate) fn verdict_pair(a: Submission, b: Submission, used: bool) -> u16
     ensures { (x y : Bool) → used ≡ (x || y) → result ≡ verdict_pair a b x y }
 {

@@ -1,5 +1,6 @@
 -- Laws of calls that the code made. Assumes nothing.
 use mathlib.Core.Path.{◌≡◌, refl, sym, ap, ◌∙◌}
+use mir.Val.{bool_byte as from_bool}
 use mathlib.Core.Bool.{Bool, true, false}
 use mathlib.Core.List.{List, [], ◌∷◌}
 use Prim.Native.Nat.{ℕ}
@@ -12,7 +13,7 @@ use Rattle.controller.specs.Answers.{Answer, Outcome, done, refused, number_of, 
 use Rattle.controller.specs.Calls.{Call, perform, of_number}
 use Rattle.stateless.specs.declared.reply.Reply as short
 use Rattle.language.specs.Replies.{Said, changed, reply}
-use Rattle.language.specs.Commands.{calling, called}
+use Rattle.language.specs.Commands.{calling, called, bit_of}
 use Rattle.stateless.specs.Leaving.{heard, changed_reply}
 
 -- the number of a call's answer
@@ -30,7 +31,13 @@ calling_made f a c d m m₁ x r e h =
     ap (λ (s : Said). reply s d m₁) e ∙ ap (λ (o : Outcome). reply (changed (f o.answer)) o.controller o.memory) h
 
 -- a call that answers its refusal number
-pub call_made : (n : ℕ) (c d : Controller) (m : Memory) (x : Call) (r : short.Reply) → r ≡ changed_reply n 1
+pub call_made : {k : ℕ} (n : ℕ) (c d : Controller) (m : Memory) (x : Call) (r : short.Reply) → k ≡ n → r ≡ changed_reply k 1
     → outcome (of_number n) d m ≡ perform c m x → reply (heard r) d m ≡ called c m x
-call_made n c d m x r e h =
-    calling_made (λ a. number_of a ∷ []) (of_number n) c d m m x r (ap heard e ∙ ap (λ (k : ℕ). changed (k ∷ [])) (sym (number_of_lem n))) h
+call_made n c d m x r is e h =
+    calling_made (λ a. number_of a ∷ []) (of_number n) c d m m x r
+    (ap heard e ∙ ap (λ (i : ℕ). changed (i ∷ [])) (is ∙ sym (number_of_lem n))) h
+
+-- a bit by std's conversion
+pub bit_is : (b : Bool) → from_bool b ≡ bit_of b
+bit_is true = refl
+bit_is false = refl

@@ -1,5 +1,6 @@
 // The calls of the model.
 ghost use Rattle.std.specs.Prelude.{◌≡◌, ◌≤◌, length};
+ghost use Rattle.rules.specs.Refusal.{by_number};
 ghost use Rattle.controller.specs.Calls.{of_started, of_finished};
 ghost use Rattle.store.specs.Held.{held, Reached};
 ghost use Rattle.language.specs.Vocabulary.{call_form};
@@ -14,22 +15,25 @@ use language::command::Call;
 use language::sizes::NUMBERS;
 use queues::create::{create_cq, create_sq};
 use queues::delete::{delete_cq, delete_sq};
+use rules::refusal::{Refusal, code};
 use starter::start;
 use stateless::reply::{Reply, changed};
 use store::{WORDS, reset};
 
 // The refusal, the SQ, how many commands, their tags, the first slot, the verdict and the first start number.
-fn started(answer: Started) -> Reply
-    ensures { Says (s.changed (start_numbers (of_started answer))) result }
+fn started(answer: Result<Started, Refusal>) -> Reply
+    ensures { Says (s.changed (start_numbers (of_started (by_number answer)))) result }
 {
     match answer {
-        Started::One {
-            sq,
-            tag,
-            slot,
-            verdict,
-            number,
-        } => Reply {
+        Ok(
+            Started::One {
+                sq,
+                tag,
+                slot,
+                verdict,
+                number,
+            },
+        ) => Reply {
             good: true,
             refusal: 0,
             count: 8,
@@ -52,14 +56,16 @@ fn started(answer: Started) -> Reply
                 0,
             ],
         },
-        Started::Pair {
-            sq,
-            first,
-            second,
-            slot,
-            verdict,
-            number,
-        } => Reply {
+        Ok(
+            Started::Pair {
+                sq,
+                first,
+                second,
+                slot,
+                verdict,
+                number,
+            },
+        ) => Reply {
             good: true,
             refusal: 0,
             count: 8,
@@ -82,16 +88,16 @@ fn started(answer: Started) -> Reply
                 0,
             ],
         },
-        Started::Refused(n) => changed(n, 8),
+        Err(refusal) => changed(refusal.number(), 8),
     }
 }
 
 // The refusal, the slot and the start number.
-fn finished(answer: Finished) -> Reply
-    ensures { Says (s.changed (finish_numbers (of_finished answer))) result }
+fn finished(answer: Result<Finished, Refusal>) -> Reply
+    ensures { Says (s.changed (finish_numbers (of_finished (by_number answer)))) result }
 {
     match answer {
-        Finished::Slot { slot, number } => Reply {
+        Ok(Finished { slot, number }) => Reply {
             good: true,
             refusal: 0,
             count: 3,
@@ -114,7 +120,7 @@ fn finished(answer: Finished) -> Reply
                 0,
             ],
         },
-        Finished::Refused(n) => changed(n, 3),
+        Err(refusal) => changed(refusal.number(), 3),
     }
 }
 
@@ -126,13 +132,16 @@ pub fn call(state: &mut [u64; WORDS], memory: &mut [u8], k: Call, a: &[u64; NUMB
         × Reached state.new × (result.count ≤ 16) }
 {
     match k {
-        Call::Controller => changed(reset(state, a[0], a[1] as u32), 1),
-        Call::CreateCq => changed(create_cq(state, memory, a[0], a[1], a[2]), 1),
-        Call::CreateSq => changed(create_sq(state, memory, a[0], a[1], a[2], a[3], a[4]), 1),
-        Call::DeleteCq => changed(delete_cq(state, a[0]), 1),
-        Call::DeleteSq => changed(delete_sq(state, a[0]), 1),
-        Call::Tail => changed(tail_write(state, a[0], a[1]), 1),
-        Call::Head => changed(head_write(state, a[0], a[1]), 1),
+        Call::Controller => changed(code(reset(state, a[0], a[1] as u32)), 1),
+        Call::CreateCq => changed(code(create_cq(state, memory, a[0], a[1], a[2])), 1),
+        Call::CreateSq => changed(
+            code(create_sq(state, memory, a[0], a[1], a[2], a[3], a[4])),
+            1,
+        ),
+        Call::DeleteCq => changed(code(delete_cq(state, a[0])), 1),
+        Call::DeleteSq => changed(code(delete_sq(state, a[0])), 1),
+        Call::Tail => changed(code(tail_write(state, a[0], a[1])), 1),
+        Call::Head => changed(code(head_write(state, a[0], a[1])), 1),
         Call::Start => started(start(state, memory)),
         Call::Finish => finished(finish(state, memory, a[0], a[1], a[2] as u32)),
     }

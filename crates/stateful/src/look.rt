@@ -4,21 +4,16 @@ ghost use Rattle.store.specs.Held.{held};
 ghost use Rattle.language.specs.declared.command.Look.TheVariants as L;
 ghost use Rattle.language.specs.Vocabulary.{look_form};
 ghost use Rattle.language.specs.Replies as s;
-ghost use Rattle.language.specs.Commands.{bit_of, remainder_number, looked};
+ghost use Rattle.language.specs.Commands.{remainder_number, looked};
 ghost use Rattle.stateless.specs.Leaving.{Says, Narrow, firsts};
 
 use arbiter::Remainder;
 use language::command::Look;
 use language::sizes::NUMBERS;
 use ring::doorbell::{check_head, check_tail};
+use rules::refusal::code;
 use stateless::reply::{Reply, told};
 use store::{WORDS, arbiter_of, command_at, cq_at, free_of, is_outstanding, sq_at};
-
-fn bit(b: bool) -> u64
-    ensures { result ≡ bit_of b }
-{
-    if b { 1 } else { 0 }
-}
 
 // A remainder without limit is the largest number.
 fn remainder(r: Remainder) -> u64
@@ -41,14 +36,14 @@ fn show_sq(state: &[u64; WORDS], a: &[u64; NUMBERS]) -> Reply
         refusal: 0,
         count: 8,
         numbers: [
-            bit(r.exists),
+            u64::from(r.exists),
             r.base,
             r.size as u64,
             r.head as u64,
             r.tail as u64,
             q.cq as u64,
             q.class as u64,
-            bit(q.marked),
+            u64::from(q.marked),
             0,
             0,
             0,
@@ -72,7 +67,7 @@ fn show_cq(state: &[u64; WORDS], a: &[u64; NUMBERS]) -> Reply
         refusal: 0,
         count: 6,
         numbers: [
-            bit(r.exists),
+            u64::from(r.exists),
             r.base,
             r.size as u64,
             r.head as u64,
@@ -138,31 +133,23 @@ fn show_arbiter(state: &[u64; WORDS]) -> Reply
     let high = t.high;
     let medium = t.medium;
     let low = t.low;
-    let group = t.group;
-    let group1 = high.group;
-    let group2 = medium.group;
-    let group3 = low.group;
-    let left = group.remainder;
-    let left1 = group1.remainder;
-    let left2 = group2.remainder;
-    let left3 = group3.remainder;
     Reply {
         good: true,
         refusal: 0,
         count: 13,
         numbers: [
-            bit(t.weighted),
+            u64::from(t.weighted),
             t.word as u64,
-            group.holder as u64,
-            remainder(left),
-            group1.holder as u64,
-            remainder(left1),
+            t.group.holder as u64,
+            remainder(t.group.remainder),
+            high.group.holder as u64,
+            remainder(high.group.remainder),
             high.credit as u64,
-            group2.holder as u64,
-            remainder(left2),
+            medium.group.holder as u64,
+            remainder(medium.group.remainder),
             medium.credit as u64,
-            group3.holder as u64,
-            remainder(left3),
+            low.group.holder as u64,
+            remainder(low.group.remainder),
             low.credit as u64,
             0,
             0,
@@ -176,8 +163,8 @@ pub fn look(state: &[u64; WORDS], k: Look, a: &[u64; NUMBERS]) -> Reply
     ensures { Says (s.told (looked (held state.now) k (firsts (length (look_form k)) 0 a.now))) result }
 {
     match k {
-        Look::CheckTail => told(check_tail(a[0], a[1], a[2], a[3]), 1),
-        Look::CheckHead => told(check_head(a[0], a[1], a[2], a[3]), 1),
+        Look::CheckTail => told(code(check_tail(a[0], a[1], a[2], a[3])), 1),
+        Look::CheckHead => told(code(check_head(a[0], a[1], a[2], a[3])), 1),
         Look::ShowSq => show_sq(state, a),
         Look::ShowCq => show_cq(state, a),
         Look::ShowTag => show_tag(state, a),

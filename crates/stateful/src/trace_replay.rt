@@ -7,7 +7,7 @@ ghost use Rattle.language.specs.Replies as s;
 ghost use Rattle.language.specs.Commands.{replayed};
 ghost use Rattle.stateless.specs.Leaving.{Printed, answer_bytes};
 
-use replay::{Replayed, replay};
+use replay::replay;
 use stateless::speak::{Answered, say};
 use store::WORDS;
 
@@ -48,10 +48,10 @@ pub fn replay_trace(
 {
     let lent = memory.len();
     match replay(state, memory, trace, answers) {
-        Replayed::Records(n) => {
+        Ok(n) => {
             let end = 16 * n as usize;
             say_records(out, word, n, &answers[..end], lent)
         }
-        Replayed::Refused(n) => say_refused(out, word, n, lent),
+        Err(refusal) => say_refused(out, word, refusal.number(), lent),
     }
 }

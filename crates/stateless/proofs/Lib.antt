@@ -1,4 +1,3 @@
-pub mod Fills
 pub mod Lying
 pub mod Values
 pub mod Pokes

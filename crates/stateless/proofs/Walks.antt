@@ -9,6 +9,7 @@ use native.Mathlib.Omega.{arith}
 use lib.Dec.{ltb, eqb}
 use lib.ListN.{length, get_or, set, take, drop}
 use lib.Seq.{sets, sets-eq, length-take-le, take_at, drop_at, drop-drop}
+use Rattle.std.specs.Prelude.{Result, Ok, Err}
 use Rattle.rules.specs.Rules.{pick, settle, first_match}
 use Rattle.le.specs.Le.{le, le_at}
 use Rattle.le.specs.Memory.{Memory, Bytes, put}
@@ -17,7 +18,6 @@ use Rattle.prp.specs.Pages.{most_pages, page_size, pages_touched, byte_counts, s
 use Rattle.prp.specs.Walk.{Walk, refused, found, after, in_memory, last_of_page, read_entry, list, data_pages, before_walk, page_walk}
 use Rattle.prp.specs.Answer.{answer, refusal_of, pages_of, reads_of, addresses_of, numbers}
 use Rattle.prp.specs.declared.Walked.{Walked}
-use Rattle.prp.specs.declared.Walked.TheVariants.{Pages, Refused}
 use Rattle.prp.proofs.Touched.{page_low, page_high, by_offset, touched_most}
 use Rattle.prp.proofs.Counts.{counts_length}
 use Rattle.prp.proofs.Facts.{counts_within}
@@ -65,20 +65,20 @@ module _ (a c : List ℕ) where
 -- ---- the answer of a walk
 
 -- its numbers, given what stands in its buffers
-abbrev pub walk_numbers : Walked → List ℕ → List ℕ → List ℕ
+abbrev pub walk_numbers : Result Walked ℕ → List ℕ → List ℕ → List ℕ
 walk_numbers w a c = refusal_of w ∷ pages_of w ∷ reads_of w ∷ in_turn (readings 8 0 (pages_of w) a) (readings 4 0 (pages_of w) c)
 
-module _ (a c : List ℕ) {w : Walked} {o o₁ : List ℕ} {p : ℕ} where
+module _ (a c : List ℕ) {w : Result Walked ℕ} {o o₁ : List ℕ} {p : ℕ} where
   -- the pages put behind three numbers
-  pub pages_put : {n reads e : ℕ} {o₂ : List ℕ} → w ≡ Pages n reads → Put o 0 (0 ∷ n ∷ reads ∷ []) o₁ p
-      → Put o₁ p (in_turn (readings 8 0 n a) (readings 4 0 n c)) o₂ e → Put o 0 (walk_numbers w a c) o₂ e
-  pages_put is f g = put_as (put_then f g) (sym (ap (λ (x : Walked). walk_numbers x a c) is))
+  pub pages_put : {x : Walked} {e : ℕ} {o₂ : List ℕ} → w ≡ Ok x → Put o 0 (0 ∷ x.pages ∷ x.reads ∷ []) o₁ p
+      → Put o₁ p (in_turn (readings 8 0 x.pages a) (readings 4 0 x.pages c)) o₂ e → Put o 0 (walk_numbers w a c) o₂ e
+  pages_put is f g = put_as (put_then f g) (sym (ap (λ (x : Result Walked ℕ). walk_numbers x a c) is))
 
   -- and none behind those of a refusal
-  pub refusal_put : {n : ℕ} → w ≡ Refused n → Put o 0 (n ∷ 0 ∷ 0 ∷ []) o₁ p → Put o 0 (walk_numbers w a c) o₁ p
-  refusal_put is f = put_as f (sym (ap (λ (x : Walked). walk_numbers x a c) is))
+  pub refusal_put : {n : ℕ} → w ≡ Err n → Put o 0 (n ∷ 0 ∷ 0 ∷ []) o₁ p → Put o 0 (walk_numbers w a c) o₁ p
+  refusal_put is f = put_as f (sym (ap (λ (x : Result Walked ℕ). walk_numbers x a c) is))
 
-numbers_length : (w : Walked) (a c : List ℕ) → length (walk_numbers w a c) ≡ 3 + 2 * pages_of w
+numbers_length : (w : Result Walked ℕ) (a c : List ℕ) → length (walk_numbers w a c) ≡ 3 + 2 * pages_of w
 unfolding pairs
 numbers_length w a c = omega (arith, pairs_length a c 0 (pages_of w))
 
@@ -246,11 +246,11 @@ module _ (m : Memory) (ns xs ys : List ℕ) (narrow : Narrow (form K.Walk).large
       let c : nth ns 5 ≤ length ys = omega arith in
       rw (length-take-le (nth ns 4) xs a, length-take-le (nth ns 5) ys c)
 
-  pub walk_few : {r : Walked} → r ≡ answer parted → pages_of r ≤ most_pages
+  pub walk_few : {r : Result Walked ℕ} → r ≡ answer parted → pages_of r ≤ most_pages
   walk_few e = rw (e, same) (few m (nth ns 0) (nth ns 1) (nth ns 2) (nth ns 3) (nth ns 4) (nth ns 5))
 
   -- the numbers put are those that the command says
-  pub walk_says : {r : Walked} {o o₁ a c : List ℕ} {n : ℕ} → Bytes m → 3 + 2 * most_pages ≤ length o
+  pub walk_says : {r : Result Walked ℕ} {o o₁ a c : List ℕ} {n : ℕ} → Bytes m → 3 + 2 * most_pages ≤ length o
       → r ≡ answer parted → a ≡ put (take (nth ns 4) xs) 0 (numbers 8 (addresses_of parted))
       → c ≡ put (take (nth ns 5) ys) 0 (numbers 4 (byte_counts (page_size (nth ns 3)) (nth ns 0) (nth ns 2) (pages_of r)))
       → Put o 0 (walk_numbers r (a ++ drop (nth ns 4) xs) (c ++ drop (nth ns 5) ys)) o₁ n

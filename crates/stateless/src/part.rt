@@ -1,5 +1,6 @@
 // The commands on a part of the memory: entries written and read, the completion reader, and bytes filled in.
-ghost use Rattle.std.specs.Prelude.{◌≡◌, ◌∷◌, [], ◌≤◌, ◌<◌, length, replicate};
+ghost use Rattle.std.specs.Prelude.{◌≡◌, ◌∷◌, [], ◌≤◌, ◌<◌, length};
+ghost use Rattle.rules.specs.Refusal.{by_number};
 ghost use Rattle.entry.specs.Submission.{submission_answer};
 ghost use Rattle.entry.specs.Completion.{completion_answer};
 ghost use Rattle.ring.specs.Reader.{waiting_answer};
@@ -11,11 +12,11 @@ ghost use Rattle.language.specs.Commands.{submission_of, submission_numbers, com
 ghost use Rattle.stateless.specs.Leaving.{Says, Narrow, firsts, heard};
 
 use crate::reply::{Reply, bad, changed, told};
-use entry::completion::CompletionRead;
-use entry::submission::{Submission, SubmissionRead};
+use entry::completion::Completion;
+use entry::submission::Submission;
 use language::command::OnPart;
 use language::sizes::NUMBERS;
-use ring::reader::Waiting;
+use rules::refusal::{Refusal, code};
 
 // The entry that the numbers of a line give, behind place and room.
 fn submission_of(a: &[u64; NUMBERS]) -> Submission
@@ -40,11 +41,11 @@ fn submission_of(a: &[u64; NUMBERS]) -> Submission
     }
 }
 
-fn of_submission(answer: SubmissionRead) -> Reply
-    ensures { Says (s.told (submission_numbers (submission_answer answer))) result }
+fn of_submission(answer: Result<Submission, Refusal>) -> Reply
+    ensures { Says (s.told (submission_numbers (submission_answer (by_number answer)))) result }
 {
     match answer {
-        SubmissionRead::Entry(e) => Reply {
+        Ok(e) => Reply {
             good: true,
             refusal: 0,
             count: 15,
@@ -67,15 +68,15 @@ fn of_submission(answer: SubmissionRead) -> Reply
                 0,
             ],
         },
-        SubmissionRead::Refused(n) => told(n, 15),
+        Err(refusal) => told(refusal.number(), 15),
     }
 }
 
-fn of_completion(answer: CompletionRead) -> Reply
-    ensures { Says (s.told (completion_numbers (completion_answer answer))) result }
+fn of_completion(answer: Result<(Completion, u8), Refusal>) -> Reply
+    ensures { Says (s.told (completion_numbers (completion_answer (by_number answer)))) result }
 {
     match answer {
-        CompletionRead::Entry(e, phase) => Reply {
+        Ok((e, phase)) => Reply {
             good: true,
             refusal: 0,
             count: 7,
@@ -98,32 +99,21 @@ fn of_completion(answer: CompletionRead) -> Reply
                 0,
             ],
         },
-        CompletionRead::Refused(n) => told(n, 7),
+        Err(refusal) => told(refusal.number(), 7),
     }
 }
 
-fn of_waiting(answer: Waiting) -> Reply
-    ensures { Says (s.told (both (waiting_answer answer))) result }
+fn of_waiting(answer: Result<u64, Refusal>) -> Reply
+    ensures { Says (s.told (both (waiting_answer (by_number answer)))) result }
 {
     match answer {
-        Waiting::Count(n) => Reply {
+        Ok(n) => Reply {
             good: true,
             refusal: 0,
             count: 2,
             numbers: [0, n, 0, 0, 0, 0, 0, 0, 0, 0, 0, 0, 0, 0, 0, 0],
         },
-        Waiting::Refused(n) => told(n, 2),
-    }
-}
-
-// Stores one byte everywhere.
-fn fill(part: &mut [u8], b: u8)
-    ensures { part.new ≡ replicate (length part.old) b }
-{
-    let mut i = 0;
-    while i < part.len() {
-        part[i] = b;
-        i += 1;
+        Err(refusal) => told(refusal.number(), 2),
     }
 }
 
@@ -131,7 +121,7 @@ fn write_cqe(part: &mut [u8], a: &[u64; NUMBERS]) -> u64
     requires { Narrow (on_part_form P.WriteCqe) 0 a.now }
     ensures { (s.changed (result ∷ []), part.new) ≡ on_part P.WriteCqe (firsts 8 0 a.now) part.old }
 {
-    entry::completion::write(
+    code(entry::completion::write(
         part,
         a[2] as u32,
         a[3] as u16,
@@ -139,7 +129,7 @@ fn write_cqe(part: &mut [u8], a: &[u64; NUMBERS]) -> u64
         a[5] as u16,
         a[6],
         a[7],
-    )
+    ))
 }
 
 fn on_part(part: &mut [u8], k: OnPart, a: &[u64; NUMBERS]) -> Reply
@@ -149,10 +139,10 @@ fn on_part(part: &mut [u8], k: OnPart, a: &[u64; NUMBERS]) -> Reply
 {
     match k {
         OnPart::Fill => {
-            fill(part, a[2] as u8);
+            part.fill(a[2] as u8);
             told(part.len() as u64, 1)
         }
-        OnPart::WriteSqe => changed(entry::submission::write(part, submission_of(a)), 1),
+        OnPart::WriteSqe => changed(code(entry::submission::write(part, submission_of(a))), 1),
         OnPart::ReadSqe => of_submission(entry::submission::read(part)),
         OnPart::WriteCqe => changed(write_cqe(part, a), 1),
         OnPart::ReadCqe => of_completion(entry::completion::read(part)),

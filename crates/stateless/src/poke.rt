@@ -16,11 +16,9 @@ fn put_value(memory: &mut [u8], at: usize, n: u64, width: usize) -> usize
     ensures { Put memory.old at (le width n) memory.new result }
 {
     let mut rest = n;
-    let mut i = 0;
-    while i < width {
+    for i in 0..width {
         le::put8(memory, at + i, rest);
         rest /= 256;
-        i += 1;
     }
     at + width
 }
@@ -31,10 +29,8 @@ fn put_values(memory: &mut [u8], at: usize, values: &[u64], width: usize) -> usi
     ensures { Put memory.old at (each (le width) values.now) memory.new result }
 {
     let mut to = at;
-    let mut i = 0;
-    while i < values.len() {
-        to = put_value(memory, to, values[i], width);
-        i += 1;
+    for value in values {
+        to = put_value(memory, to, *value, width);
     }
     to
 }

@@ -32,9 +32,9 @@ pub fn changed(refusal: u64, count: usize) -> Reply
     numbers[0] = refusal;
     Reply {
         good: true,
-        refusal: refusal,
-        count: count,
-        numbers: numbers,
+        refusal,
+        count,
+        numbers,
     }
 }
 
@@ -47,7 +47,7 @@ pub fn told(n: u64, count: usize) -> Reply
     Reply {
         good: true,
         refusal: 0,
-        count: count,
-        numbers: numbers,
+        count,
+        numbers,
     }
 }

@@ -44,9 +44,9 @@ pub fn say(
 {
     Answered {
         length: put_sentence(out, word, numbers, bytes),
-        lent: lent,
+        lent,
         good: true,
-        refusal: refusal,
+        refusal,
     }
 }
 
@@ -57,7 +57,7 @@ pub fn say_bad(out: &mut [u8], number: u64, lent: usize) -> Answered
 {
     Answered {
         length: put_bad(out, 0, number),
-        lent: lent,
+        lent,
         good: false,
         refusal: 0,
     }

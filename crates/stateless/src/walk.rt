@@ -1,5 +1,6 @@
 // The page walk: its numbers in the place of those that asked for it.
 ghost use Rattle.std.specs.Prelude.{◌≡◌, ◌∷◌, [], ◌+◌, ◌*◌, ◌≤◌, ◌<◌, length, take};
+ghost use Rattle.rules.specs.Refusal.{by_number};
 ghost use Rattle.prp.specs.Pages.{most_pages};
 ghost use Rattle.prp.specs.Answer.{refusal_of, pages_of, reads_of};
 ghost use Rattle.print.specs.Put.{Put};
@@ -11,6 +12,7 @@ ghost use Rattle.stateless.specs.Leaving.{Narrow, firsts, readings, numbers_most
 
 use language::sizes::NUMBERS;
 use prp::Walked;
+use rules::refusal::Refusal;
 
 // The refusal, the pages and the list entries read.
 fn put_three(numbers: &mut [u64], refusal: u64, pages: u64, reads: u64) -> usize
@@ -30,30 +32,33 @@ fn put_pages(numbers: &mut [u64], at: usize, addresses: &[u8], counts: &[u8], pa
         (in_turn (readings 8 0 pages addresses.now) (readings 4 0 pages counts.now)) numbers.new result }
 {
     let mut to = at;
-    let mut i = 0;
-    while i < pages {
+    for i in 0..pages {
         numbers[to] = le::get64(addresses, 8 * i);
         numbers[to + 1] = le::get32(counts, 4 * i);
         to += 2;
-        i += 1;
     }
     to
 }
 
 // The answer of a walk: its three numbers, and the pages that it left in its buffers.
-fn put_walked(numbers: &mut [u64], walked: Walked, addresses: &[u8], counts: &[u8]) -> usize
-    requires { (3 + 2 * pages_of walked ≤ length numbers.old) × (8 * pages_of walked ≤ length addresses.now)
-        × (4 * pages_of walked ≤ length counts.now) }
-    ensures { Put numbers.old 0 (refusal_of walked ∷ pages_of walked ∷ reads_of walked
-        ∷ in_turn (readings 8 0 (pages_of walked) addresses.now) (readings 4 0 (pages_of walked) counts.now))
+fn put_walked(
+    numbers: &mut [u64],
+    walked: Result<Walked, Refusal>,
+    addresses: &[u8],
+    counts: &[u8],
+) -> usize
+    requires { (3 + 2 * pages_of (by_number walked) ≤ length numbers.old) × (8 * pages_of (by_number walked) ≤ length addresses.now)
+        × (4 * pages_of (by_number walked) ≤ length counts.now) }
+    ensures { Put numbers.old 0 (refusal_of (by_number walked) ∷ pages_of (by_number walked) ∷ reads_of (by_number walked)
+        ∷ in_turn (readings 8 0 (pages_of (by_number walked)) addresses.now) (readings 4 0 (pages_of (by_number walked)) counts.now))
         numbers.new result }
 {
     match walked {
-        Walked::Pages(pages, reads) => {
-            let to = put_three(numbers, 0, pages, reads);
-            put_pages(numbers, to, addresses, counts, pages as usize)
+        Ok(found) => {
+            let to = put_three(numbers, 0, found.pages, found.reads);
+            put_pages(numbers, to, addresses, counts, found.pages as usize)
         }
-        Walked::Refused(n) => put_three(numbers, n, 0, 0),
+        Err(refusal) => put_three(numbers, refusal.number(), 0, 0),
     }
 }
 

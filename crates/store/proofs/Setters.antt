@@ -1,5 +1,6 @@
 -- What each setter stores, and which controller the words then hold. Assumes nothing.
 use Prim.Native.Nat.{ℕ, ◌+◌, ◌≤◌, ◌<◌, ◌^◌}
+use mathlib.Core.Bool.{Bool, true, false}
 use mathlib.Core.List.{List, [], ◌∷◌}
 use mathlib.Core.Path.{◌≡◌, refl, subst}
 use native.Mathlib.Nat.{mod-eq_of_lt}
@@ -7,8 +8,10 @@ use native.Mathlib.Omega.{arith}
 use lib.Dec.{lit<}
 use lib.ListN.{set}
 use borrow.Author.Tests.{lt-ltb, le-ltb}
+use Rattle.std.specs.Int.{from_bool}
 use Rattle.arbiter.specs.declared.Arbiter.{Arbiter}
 use Rattle.arbiter.specs.declared.Remainder.{Remainder}
+use Rattle.controller.specs.declared.Ring.{Ring}
 use Rattle.controller.specs.declared.SubmissionQueue.{SubmissionQueue}
 use Rattle.controller.specs.declared.CompletionQueue.{CompletionQueue}
 use Rattle.controller.specs.declared.Command.{Command}
@@ -132,22 +135,21 @@ module _ (k : ℕ) where
 
 -- ---- the words of each part, by their distance from the first
 
-abbrev pub sq_words : SubmissionQueue → ℕ → ℕ → List (ℕ × ℕ)
-sq_words q exists marked =
-    let r = q.ring in
-    (0, r.base) ∷ (16, r.size) ∷ (32, r.head) ∷ (48, r.tail) ∷ (64, exists) ∷ (80, marked) ∷ (96, q.cq) ∷ (112, q.class) ∷ []
+abbrev ring_words : Ring → List (ℕ × ℕ) → List (ℕ × ℕ)
+ring_words r more = (0, r.base) ∷ (16, r.size) ∷ (32, r.head) ∷ (48, r.tail) ∷ (64, from_bool r.exists) ∷ more
 
-abbrev pub cq_words : CompletionQueue → ℕ → List (ℕ × ℕ)
-cq_words q exists =
-    let r = q.ring in
-    (0, r.base) ∷ (16, r.size) ∷ (32, r.head) ∷ (48, r.tail) ∷ (64, exists) ∷ (80, q.phase) ∷ []
+abbrev pub sq_words : SubmissionQueue → List (ℕ × ℕ)
+sq_words q = ring_words q.ring ((80, from_bool q.marked) ∷ (96, q.cq) ∷ (112, q.class) ∷ [])
+
+abbrev pub cq_words : CompletionQueue → List (ℕ × ℕ)
+cq_words q = ring_words q.ring ((80, q.phase) ∷ [])
 
 abbrev pub command_words : Command → List (ℕ × ℕ)
 command_words k = (0, k.sq) ∷ (64, k.cid) ∷ (128, k.verdict) ∷ (192, k.first) ∷ (256, k.second) ∷ (320, k.number) ∷ []
 
-abbrev pub arbiter_words : Arbiter → (weighted group high medium low : ℕ) → List (ℕ × ℕ)
-arbiter_words a weighted group high medium low =
-    (0, weighted) ∷ (1, a.word) ∷ (2, a.group.holder) ∷ (3, group)
+abbrev pub arbiter_words : Arbiter → (group high medium low : ℕ) → List (ℕ × ℕ)
+arbiter_words a group high medium low =
+    (0, from_bool a.weighted) ∷ (1, a.word) ∷ (2, a.group.holder) ∷ (3, group)
     ∷ (4, a.high.group.holder) ∷ (5, high) ∷ (6, a.high.credit)
     ∷ (7, a.medium.group.holder) ∷ (8, medium) ∷ (9, a.medium.credit)
     ∷ (10, a.low.group.holder) ∷ (11, low) ∷ (12, a.low.credit) ∷ []
@@ -163,6 +165,11 @@ pub record Wide (a : Arbiter) : Type 0 where
   pub low_holder : a.low.group.holder < 4294967296
   pub low_credit : a.low.credit < 4294967296
 
+-- a flag is the word of its truth
+flagged : (b : Bool) → (flag (from_bool b) ≡ b) × (from_bool b < 2)
+flagged true = (refl, lit< tt)
+flagged false = (refl, lit< tt)
+
 -- the same controller, worded otherwise
 holds : {w : List ℕ} {c d : Controller} → Holds w c → c ≡ d → Holds w d
 holds h e = subst (Holds _) e h
@@ -174,12 +181,14 @@ module _ (w : List ℕ) (h : Sound w) where
   module _ (i : ℕ) (l : i < 16) where
     -- ---- submission queues
 
-    pub sq_put : (q : SubmissionQueue) (e m : ℕ) → (flag e ≡ q.ring.exists) × (e < 2) → (flag m ≡ q.marked) × (m < 2)
+    pub sq_put : (q : SubmissionQueue)
         → q.ring.base < 2 ^ 64 → q.ring.size < 65536 → q.ring.head < 65536 → q.ring.tail < 65536 → q.cq < 256 → q.class < 256
-        → Holds (stored w i (sq_words q e m)) (with_sq c i q)
-    sq_put q e m x y b s d t cq cl =
+        → Holds (stored w i (sq_words q)) (with_sq c i q)
+    sq_put q b s d t cq cl =
+        let x = flagged q.ring.exists in
+        let y = flagged q.marked in
         holds
-        (sq_stored w h (sq_words q e m) i l (
+        (sq_stored w h (sq_words q) i l (
           (0, lit< tt, refl),
           (
             (1, lit< tt, refl),
@@ -232,12 +241,13 @@ module _ (w : List ℕ) (h : Sound w) where
 
     -- ---- completion queues
 
-    pub cq_put : (q : CompletionQueue) (e : ℕ) → (flag e ≡ q.ring.exists) × (e < 2)
+    pub cq_put : (q : CompletionQueue)
         → q.ring.base < 2 ^ 64 → q.ring.size < 65536 → q.ring.head < 65536 → q.ring.tail < 65536 → q.phase < 256
-        → Holds (stored w (i + 128) (cq_words q e)) (with_cq c i q)
-    cq_put q e x b s d t p =
+        → Holds (stored w (i + 128) (cq_words q)) (with_cq c i q)
+    cq_put q b s d t p =
+        let x = flagged q.ring.exists in
         holds
-        (cq_stored w h (cq_words q e) i l (
+        (cq_stored w h (cq_words q) i l (
           (0, lit< tt, refl),
           ((1, lit< tt, refl), ((2, lit< tt, refl), ((3, lit< tt, refl), ((4, lit< tt, refl), ((5, lit< tt, refl), tt))))),
         ) (
@@ -318,14 +328,15 @@ module _ (w : List ℕ) (h : Sound w) where
   abbrev pub For : ℕ → Remainder → Type 0
   For x r = (remainder_from x ≡ r) × (x < 4294967297)
 
-  pub arbiter_put : (a : Arbiter) → Wide a → (b g hi me lo : ℕ) → (flag b ≡ a.weighted) × (b < 2)
+  pub arbiter_put : (a : Arbiter) → Wide a → (g hi me lo : ℕ)
       → For g a.group.remainder → For hi a.high.group.remainder → For me a.medium.group.remainder
       → For lo a.low.group.remainder
-      → Holds (stored w 609 (arbiter_words a b g hi me lo)) (with_commands c c.commands c.free a)
+      → Holds (stored w 609 (arbiter_words a g hi me lo)) (with_commands c c.commands c.free a)
   unfolding limit_at
-  arbiter_put a k b g hi me lo x p q r s =
+  arbiter_put a k g hi me lo p q r s =
+      let x = flagged a.weighted in
       holds
-      (arbiter_stored w h (arbiter_words a b g hi me lo) (
+      (arbiter_stored w h (arbiter_words a g hi me lo) (
         (0, lit< tt, refl),
         (
           (1, lit< tt, refl),

@@ -2,15 +2,18 @@
 // is used in this crate alone; the calls use its getters and setters.
 #![tactic(auto)]
 
-ghost use Rattle.std.specs.Prelude.{◌≡◌, ◌+◌, ◌%◌, ◌≤◌, ◌<◌, set};
+ghost use Rattle.rules.specs.Refusal.{code};
+ghost use Rattle.std.specs.Prelude.{ℕ, ◌≡◌, ◌+◌, ◌%◌, ◌≤◌, ◌<◌, set};
+ghost use Rattle.std.specs.Int.{from_bool};
 ghost use Rattle.controller.specs.Doorbell.{tail_moved, head_moved, mark};
-ghost use Rattle.controller.specs.State.{outstanding, sq_at, cq_at, command_at, with_head, with_tail, sq_with_ring, with_sq, with_cq, with_commands};
-ghost use Rattle.controller.specs.State.{with_next_number};
+ghost use Rattle.controller.specs.State.{outstanding, sq_at, cq_at, command_at, with_head, with_tail, sq_with_ring, with_sq, with_cq};
+ghost use Rattle.controller.specs.State.{with_commands, with_next_number};
 ghost use Rattle.controller.specs.State.{fresh_controller, new_refusal, new_controller};
-ghost use Rattle.store.specs.Held.{flag, ring_from, remainder_from, group_from, level_from, from, held, Sound, Holds};
+ghost use Rattle.store.specs.Held.{ring_from, remainder_from, group_from, level_from, from, held, Sound, Holds};
 
 use arbiter::{Arbiter, Group, Level, Remainder};
 use controller::{Command, CompletionQueue, Ring, SubmissionQueue};
+use rules::refusal::Refusal;
 
 pub const WORDS: usize = 623;
 
@@ -75,12 +78,7 @@ const NO_LIMIT: u64 = 4294967296;
 
 // ---- numbers
 
-fn bit(b: bool) -> u64
-    ensures { (flag result ≡ b) × (result < 2) }
-{
-    if b { 1 } else { 0 }
-}
-
+// Kept apart: `as` keeps every bit, so what a field cuts off its word is said, by a number of its own for each width.
 fn byte(x: u64) -> u8
     ensures { result ≡ x % 256 }
 {
@@ -134,6 +132,18 @@ fn ring_at(s: &[u64; WORDS], p: usize) -> Ring
     }
 }
 
+fn put_ring(s: &mut [u64; WORDS], p: usize, r: Ring)
+    requires { p < 144 }
+    ensures { s.new ≡ set (set (set (set (set s.old (p + 0) r.base) (p + 16) r.size) (p + 32) r.head) (p + 48) r.tail)
+        (p + 64) (from_bool r.exists) }
+{
+    s[p + BASE] = r.base;
+    s[p + SIZE] = r.size as u64;
+    s[p + HEAD] = r.head as u64;
+    s[p + TAIL] = r.tail as u64;
+    s[p + EXISTS] = r.exists as u64;
+}
+
 pub fn sq_at(s: &[u64; WORDS], i: usize) -> SubmissionQueue
     requires { i < 16 }
     ensures { result ≡ sq_at (held s.now) i }
@@ -150,15 +160,8 @@ pub fn put_sq(s: &mut [u64; WORDS], i: usize, q: SubmissionQueue)
     requires { (i < 16) × Sound s.old }
     ensures { Holds s.new (with_sq (held s.old) i q) }
 {
-    let r = q.ring;
-    let exists = bit(r.exists);
-    let marked = bit(q.marked);
-    s[i + BASE] = r.base;
-    s[i + SIZE] = r.size as u64;
-    s[i + HEAD] = r.head as u64;
-    s[i + TAIL] = r.tail as u64;
-    s[i + EXISTS] = exists;
-    s[i + MARKED] = marked;
+    put_ring(s, i, q.ring);
+    s[i + MARKED] = q.marked as u64;
     s[i + CQ_OF] = q.cq as u64;
     s[i + CLASS] = q.class as u64;
 }
@@ -199,13 +202,7 @@ pub fn put_cq(s: &mut [u64; WORDS], i: usize, q: CompletionQueue)
     requires { (i < 16) × Sound s.old }
     ensures { Holds s.new (with_cq (held s.old) i q) }
 {
-    let r = q.ring;
-    let exists = bit(r.exists);
-    s[i + CQ + BASE] = r.base;
-    s[i + CQ + SIZE] = r.size as u64;
-    s[i + CQ + HEAD] = r.head as u64;
-    s[i + CQ + TAIL] = r.tail as u64;
-    s[i + CQ + EXISTS] = exists;
+    put_ring(s, i + CQ, q.ring);
     s[i + CQ + PHASE] = q.phase as u64;
 }
 
@@ -276,7 +273,7 @@ fn group_at(s: &[u64; WORDS], p: usize) -> Group
     ensures { result ≡ group_from (from s.now p) 0 }
 {
     Group {
-        holder: dword(s[p + 0]),
+        holder: dword(s[p]),
         remainder: remainder_of(s[p + 1]),
     }
 }
@@ -304,39 +301,34 @@ pub fn arbiter_of(s: &[u64; WORDS]) -> Arbiter
     }
 }
 
+fn put_group(s: &mut [u64; WORDS], p: usize, g: Group)
+    requires { p + 2 ≤ 623 }
+    ensures { (left : ℕ) × (remainder_from left ≡ g.remainder) × (left < 4294967297)
+        × (s.new ≡ set (set s.old p g.holder) (p + 1) left) }
+{
+    s[p] = g.holder as u64;
+    s[p + 1] = word_of(g.remainder);
+}
+
+fn put_level(s: &mut [u64; WORDS], p: usize, l: Level)
+    requires { p + 3 ≤ 623 }
+    ensures { (left : ℕ) × (remainder_from left ≡ l.group.remainder) × (left < 4294967297)
+        × (s.new ≡ set (set (set s.old p l.group.holder) (p + 1) left) (p + 2) l.credit) }
+{
+    put_group(s, p, l.group);
+    s[p + 2] = l.credit as u64;
+}
+
 pub fn put_arbiter(s: &mut [u64; WORDS], a: Arbiter)
     requires { Sound s.old }
     ensures { let c = held s.old in Holds s.new (with_commands c c.commands c.free a) }
 {
-    let weighted = bit(a.weighted);
-    let group = a.group;
-    let left = group.remainder;
-    let group_left = word_of(left);
-    let high = a.high;
-    let high_group = high.group;
-    let left = high_group.remainder;
-    let high_left = word_of(left);
-    let medium = a.medium;
-    let medium_group = medium.group;
-    let left = medium_group.remainder;
-    let medium_left = word_of(left);
-    let low = a.low;
-    let low_group = low.group;
-    let left = low_group.remainder;
-    let low_left = word_of(left);
-    s[WEIGHTED] = weighted;
+    s[WEIGHTED] = a.weighted as u64;
     s[WORD] = a.word as u64;
-    s[GROUP] = group.holder as u64;
-    s[GROUP + 1] = group_left;
-    s[HIGH] = high_group.holder as u64;
-    s[HIGH + 1] = high_left;
-    s[HIGH + 2] = high.credit as u64;
-    s[MEDIUM] = medium_group.holder as u64;
-    s[MEDIUM + 1] = medium_left;
-    s[MEDIUM + 2] = medium.credit as u64;
-    s[LOW] = low_group.holder as u64;
-    s[LOW + 1] = low_left;
-    s[LOW + 2] = low.credit as u64;
+    put_group(s, GROUP, a.group);
+    put_level(s, HIGH, a.high);
+    put_level(s, MEDIUM, a.medium);
+    put_level(s, LOW, a.low);
 }
 
 // ---- start numbers
@@ -366,26 +358,23 @@ fn refresh(s: &mut [u64; WORDS], weighted: bool, word: u32)
 }
 
 // Makes any words those of a fresh controller of a mechanism, 0 round robin or 1 weighted with urgent, and the Arbitration feature
-// word: 0, or the refusal number.
-pub fn reset(s: &mut [u64; WORDS], mechanism: u64, word: u32) -> u64
-    ensures { (result ≡ new_refusal mechanism) × Holds s.new (new_controller mechanism word) }
+// word.
+pub fn reset(s: &mut [u64; WORDS], mechanism: u64, word: u32) -> Result<(), Refusal>
+    ensures { (code result ≡ new_refusal mechanism) × Holds s.new (new_controller mechanism word) }
 {
     if 1 < mechanism {
         refresh(s, false, 0);
-        return 23;
+        return Err(Refusal::UnknownMechanism);
     }
     refresh(s, mechanism == 1, word);
-    0
+    Ok(())
 }
 
 // Whether a tag's command is outstanding, for a tag of any size; bit t of `free` is set where tag t is free.
 pub fn is_outstanding(free: u64, tag: u64) -> bool
     ensures { result ≡ outstanding free tag }
 {
-    if Controller::LAST_TAG < tag {
-        return false;
-    }
-    !bits::is_free(free, tag)
+    tag <= Controller::LAST_TAG && !bits::is_free(free, tag)
 }
 
 // A controller: the words that its calls are lent.
@@ -394,10 +383,10 @@ pub struct Controller {
     pub words: [u64; WORDS],
 }
 
-// A new controller, and 0 or the refusal number.
+// A new controller, which is there beside a refusal too.
 #[derive(Clone, Copy)]
 pub struct Created {
-    pub refusal: u64,
+    pub answer: Result<(), Refusal>,
     pub controller: Controller,
 }
 
@@ -434,13 +423,13 @@ impl Controller {
 
     // A fresh controller of a mechanism and the Arbitration feature word.
     pub fn new(mechanism: u64, word: u32) -> Created
-        ensures { (result.refusal ≡ new_refusal mechanism) × Holds result.controller.words (new_controller mechanism word) }
+        ensures { (code result.answer ≡ new_refusal mechanism) × Holds result.controller.words (new_controller mechanism word) }
     {
         let mut words = [0u64; WORDS];
-        let refusal = reset(&mut words, mechanism, word);
+        let answer = reset(&mut words, mechanism, word);
         Created {
-            refusal: refusal,
-            controller: Controller { words: words },
+            answer,
+            controller: Controller { words },
         }
     }
 }

@@ -2,26 +2,32 @@
 // yet, is made again.
 #![tactic(auto)]
 
-ghost use Rattle.std.specs.Prelude.{◌≡◌, ◌^◌, ◌≤◌, ◌<◌, length, take};
-ghost use Rattle.std.specs.Io.KnownBytes.{Appends, Consumes, IsAtEnd};
-ghost use Rattle.stream.specs.Stops.{number_of, Stops, Fatal};
+ghost use Rattle.std.specs.Prelude.{◌≡◌, ◌^◌, ◌≤◌, ◌<◌, length, take, true, IfOk, IfErr, OnOk, IsOk, IfSome, IfNone};
+ghost use Rattle.std.specs.Io.KnownBytes.{Appends, Consumes, IsAtEnd, ReadConsumes};
+ghost use Rattle.stream.specs.Stops.{number_of, passes, Stops};
 
 use std::io;
 use std::io::{ErrorKind, Read, Write};
 
 // Numbers of errors, as the system has them: a call that was interrupted, an input or an output that failed, and a call that
 // cannot be made yet.
-const EINTR: i32 = 4;
+const EINTR: u64 = 4;
 
-const EIO: i32 = 5;
+const EIO: u64 = 5;
 
-const EAGAIN: i32 = 11;
+const EAGAIN: u64 = 11;
 
-// What was read: how many bytes, and the number of the error that stopped it, 0 for none.
-#[derive(Clone, Copy)]
-pub struct Input {
+// An error by the system's number, 0 where that has none.
+#[derive(Clone, Copy, Debug, PartialEq, Eq)]
+pub struct Errno {
+    pub number: u64,
+}
+
+// What was read before the buffer was full or the input ended, and the error that stopped it, if one did.
+#[derive(Clone, Copy, Debug)]
+pub struct Filled {
     pub count: usize,
-    pub error: u64,
+    pub error: Option<Errno>,
 }
 
 // The number of an error, 0 for none.
@@ -36,9 +42,11 @@ fn number(error: i32) -> u64
 }
 
 // The number that the system gave an error. A reader or a writer that is none of the system's may fail without one.
-fn number_in(error: io::Error) -> i32 {
+fn number_in(error: io::Error) -> u64
+    ensures { result < 2 ^ 31 }
+{
     if let Some(code) = error.raw_os_error() {
-        return code;
+        return number(code);
     }
     match error.kind() {
         ErrorKind::Interrupted => EINTR,
@@ -47,99 +55,101 @@ fn number_in(error: io::Error) -> i32 {
     }
 }
 
-// The error for which a call that has just failed is not to be made again; 0 for none.
-fn fatal(failed: io::Error) -> u64
-    ensures { Fatal result }
-{
-    let error = number_in(failed);
-    if error != EINTR {
-        if error != EAGAIN {
-            return number(error);
+impl From<io::Error> for Errno {
+    ghost from_gives = { λ _ e. e.number < 2 ^ 31 };
+
+    fn from(error: io::Error) -> Errno {
+        Errno {
+            number: number_in(error),
         }
     }
-    0
 }
 
-// Reads once: 0 bytes at the end of the input. A proved loop has to end: the tries are counted down, from a number that no
-// run uses up.
-pub fn read<R: Read>(input: &mut R, buf: &mut [u8]) -> Input
-    ensures prefix_len { (result.count ≤ length buf.new) × (result.count ≡ length (take result.count buf.new)) }
-    ensures stops { Stops result.error × (0 < result.error → result.count ≡ 0) }
-    ensures bytes { Consumes (R.remaining input.old) (R.remaining input.new) (take result.count buf.new) }
-    ensures end { result.count ≡ 0 → result.error ≡ 0 → 0 < length buf.new → IsAtEnd (R.remaining input.new) }
+impl Errno {
+    // Of a call that cannot be made yet.
+    fn not_yet() -> Errno
+        ensures { Stops result }
+    {
+        Errno { number: EAGAIN }
+    }
+
+    // Whether a call that failed by it is to be made again.
+    fn passes(self) -> bool
+        ensures { result ≡ passes self.number }
+    {
+        self.number == 0 || self.number == EINTR || self.number == EAGAIN
+    }
+}
+
+// Reads once: 0 bytes at the end of the input. A proved loop has to end: the tries are bounded by a number that no run uses up.
+pub fn read<R: Read>(input: &mut R, buf: &mut [u8]) -> Result<usize, Errno>
+    ensures prefix_len { IfOk result (λ n. (n ≤ length buf.new) × (n ≡ length (take n buf.new))) }
+    ensures stops { IfErr result Stops }
+    ensures bytes { ReadConsumes (R.remaining input.old) (R.remaining input.new) result buf.new }
 {
-    let mut tries = u64::MAX;
-    while tries > 0 {
+    for _ in 0..u64::MAX {
         match input.read(buf) {
-            Ok(count) => {
-                return Input {
-                    count: count,
-                    error: 0,
-                };
-            }
+            Ok(count) => return Ok(count),
             Err(failed) => {
-                let error = fatal(failed);
-                if error > 0 {
-                    return Input {
-                        count: 0,
-                        error: error,
-                    };
+                let error = Errno::from(failed);
+                if !error.passes() {
+                    return Err(error);
                 }
             }
         }
-        tries -= 1;
     }
-    Input {
-        count: 0,
-        error: number(EAGAIN),
-    }
+    Err(Errno::not_yet())
 }
 
 // Reads until the buffer is full, the input ends or an error stops it, which may be after some bytes.
-pub fn fill<R: Read>(input: &mut R, buf: &mut [u8]) -> Input
+pub fn fill<R: Read>(input: &mut R, buf: &mut [u8]) -> Filled
     ensures count_in_bounds { result.count ≤ length buf.new }
-    ensures stops { Stops result.error × (0 < result.error → result.count < length buf.new) }
+    ensures stops { IfSome result.error (λ e. Stops e × (result.count < length buf.new)) }
     ensures bytes { Consumes (R.remaining input.old) (R.remaining input.new) (take result.count buf.new) }
-    ensures end { result.error ≡ 0 → result.count < length buf.new → IsAtEnd (R.remaining input.new) }
+    ensures end { IfNone result.error (result.count < length buf.new → IsAtEnd (R.remaining input.new)) }
 {
     let mut done: usize = 0;
     while done < buf.len() {
-        let more = read(input, &mut buf[done..]);
-        if more.count == 0 {
-            return Input {
-                count: done,
-                error: more.error,
-            };
+        match read(input, &mut buf[done..]) {
+            Ok(0) => break,
+            Ok(count) => done += count,
+            Err(error) => {
+                return Filled {
+                    count: done,
+                    error: Some(error),
+                };
+            }
         }
-        done += more.count;
     }
-    Input {
+    Filled {
         count: done,
-        error: 0,
+        error: None,
     }
 }
 
-// Writes a text out, however many calls that takes, and answers the number of the error that stopped it, 0 for none.
-pub fn write<W: Write>(output: &mut W, text: &[u8]) -> u64
-    ensures stops { Stops result × (length text.now ≡ 0 → result ≡ 0) }
-    ensures bytes { result ≡ 0 → Appends (W.contents output.old) (W.contents output.new) text.now }
+// Writes a text out, however many calls that takes.
+pub fn write<W: Write>(output: &mut W, text: &[u8]) -> Result<(), Errno>
+    ensures stops { IfErr result Stops }
+    ensures none { length text.now ≡ 0 → IsOk result }
+    ensures bytes { OnOk result (Appends (W.contents output.old) (W.contents output.new) text.now) }
 {
     let mut done: usize = 0;
-    let mut tries = u64::MAX;
-    while tries > 0 && done < text.len() {
+    for _ in 0..u64::MAX {
+        if done == text.len() {
+            break;
+        }
         match output.write(&text[done..]) {
             Ok(count) => done += count,
             Err(failed) => {
-                let error = fatal(failed);
-                if error > 0 {
-                    return error;
+                let error = Errno::from(failed);
+                if !error.passes() {
+                    return Err(error);
                 }
             }
         }
-        tries -= 1;
     }
     if done < text.len() {
-        return number(EAGAIN);
+        return Err(Errno::not_yet());
     }
-    0
+    Ok(())
 }

@@ -1,4 +1,5 @@
 -- The numbers of a record, exactly when: once more in propositions. Assumes nothing.
+use Rattle.std.specs.Prelude.{Result, Ok, Err}
 use Prim.Native.Nat.{ℕ, zero, suc, ◌+◌, ◌*◌, ◌-◌, ◌<◌, ◌≤◌}
 use mathlib.Core.Bool.{Bool, true, false}
 use mathlib.Core.List.{List, [], ◌∷◌}
@@ -68,7 +69,7 @@ record_number r =
 -- ---- the number of what a record asks for is the table's: 0 for a call
 
 call_number : (a b c : Bool) (q v : ℕ)
-    → number_in (asked (pick a (R.TailWrite q v) (pick b (R.HeadWrite q v) (pick c R.Start (R.Finish q v))))) ≡ 0
+    → number_in (asked (Ok (pick a (R.TailWrite q v) (pick b (R.HeadWrite q v) (pick c R.Start (R.Finish q v)))))) ≡ 0
 call_number true b c q v = refl
 call_number false true c q v = refl
 call_number false false true q v = refl
@@ -79,10 +80,10 @@ unfolding record_in
 numbered r =
     let n = first_match (record_rules r) in
     ⊎_elim
-    (λ (z : n ≡ 0). ap (λ x. number_in (asked x)) (settle_accepted n R.Refused (call_in r) z)
+    (λ (z : n ≡ 0). ap (λ x. number_in (asked x)) (settle_accepted n Err (Ok (call_in r)) z)
     ∙ call_number (eqb (sent r) 1) (eqb (sent r) 2) (eqb (sent r) 3) (target r) (value r)
     ∙ sym z)
-    (λ (d : n ≡ 0 → ⊥). ap (λ x. number_in (asked x)) (settle_refused n R.Refused (call_in r) d))
+    (λ (d : n ≡ 0 → ⊥). ap (λ x. number_in (asked x)) (settle_refused n Err (Ok (call_in r)) d))
     (same_or_not n 0)
 
 pub number_at : (t : List ℕ) (place : ℕ) → number_in (asked (record_at t place)) ≡ refusal_at t place
@@ -91,7 +92,7 @@ number_at t place =
     ⊎_elim (λ (h : place < length t). rw (lt-ltb place (length t) h, lt-leb (length t) place h) (numbered (part t place 16)))
     (λ (h : length t ≤ place). rw (le-ltb place (length t) h, le-leb (length t) place h)) (lt_or_ge place (length t))
 
-pub answered : (t : List ℕ) (place : ℕ) {x : Record} → x ≡ record_at t place
+pub answered : (t : List ℕ) (place : ℕ) {x : Result Record ℕ} → x ≡ record_at t place
     → (x ≡ record_at t place) × (number_in (asked x) ≡ refusal_at t place)
 answered t place e = answer_number (λ y. number_in (asked y)) (number_at t place) e
 

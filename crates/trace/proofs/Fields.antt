@@ -11,11 +11,12 @@ use lib.ListN.{length, take, drop, get_or, length-drop}
 use lib.Seq.{drop-cons, drop-drop, take-add, drop_at, length-take-le}
 use borrow.Author.Tests.{eq-eqb, ne_eqb}
 use Rattle.rules.proofs.Tests.{same_or_not}
-use Rattle.rules.specs.Rules.{pick}
 use Rattle.le.specs.Le.{le_at}
 use Rattle.le.specs.Memory.{part}
 use Rattle.le.proofs.Parts.{part_get_d, part_add}
-use Rattle.trace.specs.Record.{any_set}
+use Rattle.trace.specs.declared.Kind.{Kind}
+use Rattle.trace.specs.declared.Kind.TheVariants as K
+use Rattle.trace.specs.Record.{first_spare, any_set}
 
 -- a number in a part of the trace
 pub le_at_part : (k : ℕ) (t : List ℕ) (place n i : ℕ) → i + k ≤ n → le_at k (part t place n) i ≡ le_at k t (place + i)
@@ -90,31 +91,32 @@ module _ (t : List ℕ) (place : ℕ) (h : place + 16 ≤ length t) where
         drop_part 4 12 t place (omega arith),
       )
 
-  -- the spare bytes by the record's call
-  module _ (call : ℕ) where
-    abbrev Spare : Bool
-    Spare = any_set (drop (pick (eqb call 3) 1 4) (part t place 16))
+  -- the spare bytes by the kind of call
+  abbrev Spare : Kind → Bool
+  Spare k = any_set (drop (first_spare k) (part t place 16))
 
-    -- what is set from byte 4 on is spare in every record
-    pub spare_last : any_set (drop 4 (part t place 16)) ≡ true → true ≡ Spare
-    spare_last e =
-        ⊎_elim (λ (s : call ≡ 3). simp (eq-eqb call 3 s, from_1, e, or-true)) (λ (s : call ≡ 3 → ⊥). rw (ne_eqb call 3 s) (sym e))
-        (same_or_not call 3)
+  -- what is set from byte 4 on is spare in every record
+  spare_last : (k : Kind) → any_set (drop 4 (part t place 16)) ≡ true → true ≡ Spare k
+  spare_last K.TailWrite e = sym e
+  spare_last K.HeadWrite e = sym e
+  spare_last K.Start e = simp (from_1, e, or-true)
+  spare_last K.Finish e = sym e
 
-    pub spare_4 : (le_at 4 t (place + 4) ≡ 0 → ⊥) → true ≡ Spare
-    spare_4 d = spare_last (rw (from_4, ne_eqb _ 0 d))
+  module _ (k : Kind) where
+    pub spare_4 : (le_at 4 t (place + 4) ≡ 0 → ⊥) → true ≡ Spare k
+    spare_4 d = spare_last k (rw (from_4, ne_eqb _ 0 d))
 
     module _ (z : le_at 4 t (place + 4) ≡ 0) where
-      pub spare_8 : (le_at 8 t (place + 8) ≡ 0 → ⊥) → true ≡ Spare
-      spare_8 d = spare_last (rw (from_4, eq-eqb _ 0 z, ne_eqb _ 0 d))
+      pub spare_8 : (le_at 8 t (place + 8) ≡ 0 → ⊥) → true ≡ Spare k
+      spare_8 d = spare_last k (rw (from_4, eq-eqb _ 0 z, ne_eqb _ 0 d))
 
       module _ (y : le_at 8 t (place + 8) ≡ 0) where
-        pub unspare : (call ≡ 3 → ⊥) → false ≡ Spare
-        unspare s = rw (ne_eqb call 3 s, from_4, eq-eqb _ 0 z, eq-eqb _ 0 y)
+        pub unspare : first_spare k ≡ 4 → false ≡ Spare k
+        unspare s = rw (s, from_4, eq-eqb _ 0 z, eq-eqb _ 0 y)
 
-        module _ (s : call ≡ 3) where
-          pub spare_1 : (le_at 1 t (place + 1) ≡ 0 → ⊥) → true ≡ Spare
-          spare_1 d = rw (eq-eqb call 3 s, from_1, ne_eqb _ 0 d)
+        module _ (s : k ≡ K.Start) where
+          pub spare_1 : (le_at 1 t (place + 1) ≡ 0 → ⊥) → true ≡ Spare k
+          spare_1 d = rw (s, from_1, ne_eqb _ 0 d)
 
-          pub spare_2 : le_at 1 t (place + 1) ≡ 0 → not (eqb (le_at 2 t (place + 2)) 0) ≡ Spare
-          spare_2 x = rw (eq-eqb call 3 s, from_1, eq-eqb _ 0 x, from_4, eq-eqb _ 0 z, eq-eqb _ 0 y) (sym (or-false _))
+          pub spare_2 : le_at 1 t (place + 1) ≡ 0 → not (eqb (le_at 2 t (place + 2)) 0) ≡ Spare k
+          spare_2 x = rw (s, from_1, eq-eqb _ 0 x, from_4, eq-eqb _ 0 z, eq-eqb _ 0 y) (sym (or-false _))

@@ -1,4 +1,5 @@
 -- What a reader hands out: from the start of a trace on, its records one after another, and then the end. Assumes nothing.
+use Rattle.std.specs.Prelude.{Result, Ok}
 use Prim.Native.Nat.{ℕ, zero, suc, ◌+◌, ◌-◌, ◌<◌, ◌≤◌}
 use mathlib.Core.List.{List, [], ◌∷◌, ◌++◌, map}
 use mathlib.Core.Path.{◌≡◌, refl, sym, ap}
@@ -9,12 +10,12 @@ use Rattle.trace.specs.declared.Record.{Record}
 use Rattle.trace.specs.declared.Record.TheVariants.{End}
 use Rattle.trace.specs.Record.{record_in}
 use Rattle.trace.specs.Trace.{begun, records, record_at, next_at}
-use Rattle.trace.proofs.Cutting.{records_from, at_end, unrolled}
+use Rattle.trace.proofs.Cutting.{records_from, at_end, unrolled, from_next}
 use Rattle.trace.proofs.Wholes.{ended, there}
 
 -- the first n records that a reader hands out which stands at a place: by the contracts of `next` and `moved`, it hands out the record
 -- there, and is then at the next place
-abbrev pub handed_out : ℕ → List ℕ → ℕ → List Record
+abbrev pub handed_out : ℕ → List ℕ → ℕ → List (Result Record ℕ)
 handed_out zero t place = []
 handed_out (suc n) t place = record_at t place ∷ handed_out n t (next_at t place)
 
@@ -24,7 +25,7 @@ module _ (t : List ℕ) where
   next_end place h = omega arith
 
   -- at the end, the end again and again
-  past : (n place : ℕ) → length t ≤ place → handed_out n t place ≡ replicate n End
+  past : (n place : ℕ) → length t ≤ place → handed_out n t place ≡ replicate n (Ok End)
   past zero place h = refl
   past (suc n) place h = rw (← ended t place h, past n (next_at t place) (next_end place h))
 
@@ -37,14 +38,14 @@ module _ (t : List ℕ) where
   one_begun k place e = (omega arith, omega arith)
 
   from_place : (k n place : ℕ) → k ≡ begun (length t - place)
-      → handed_out (k + n) t place ≡ map record_in (records_from t place) ++ replicate n End
+      → handed_out (k + n) t place ≡ map record_in (records_from t place) ++ replicate n (Ok End)
   from_place zero n place e = let h = none_begun place e in rw (at_end t place h, zero-add n) (past n place h)
   from_place (suc k) n place e =
       let b = one_begun k place e in
-      rw (suc-add, unrolled t place b.0, ← there t place b.0, from_place k n (next_at t place) b.1)
+      rw (suc-add, unrolled t place b.0, ← from_next t place b.0, ← there t place b.0, from_place k n (next_at t place) b.1)
 
   -- from the start, where `new` puts it: the trace's records, and then, of any n more, the end each time
-  pub hands_out : (n : ℕ) → handed_out (begun (length t) + n) t 0 ≡ map record_in (records t) ++ replicate n End
+  pub hands_out : (n : ℕ) → handed_out (begun (length t) + n) t 0 ≡ map record_in (records t) ++ replicate n (Ok End)
   unfolding records
   hands_out n =
       let z = sub-zero (length t) in rw z at (from_place (begun (length t)) n 0 (ap begun (sym z)))

@@ -1,8 +1,10 @@
 -- A record of a plant's trace.
-use Rattle.std.specs.Prelude.{ℕ, Bool, false, not, ◌||◌, List, [], ◌∷◌, ltb, eqb, length, drop}
+use Rattle.std.specs.Prelude.{ℕ, Bool, false, not, ◌||◌, List, [], ◌∷◌, ltb, eqb, length, drop, Option, Some, None, Result, Ok, Err}
 use Rattle.rules.specs.Rules.{pick, Table, first_match, settle, outside_of}
 use Rattle.le.specs.Le.{le_at}
 use Rattle.controller.specs.Calls.{Call, tail_write, head_write, start, finish}
+use Rattle.trace.specs.declared.Kind.{Kind}
+use Rattle.trace.specs.declared.Kind.TheVariants as K
 use Rattle.trace.specs.declared.Record.{Record}
 use Rattle.trace.specs.declared.Record.TheVariants as R
 
@@ -15,6 +17,19 @@ target r = le_at 1 r 1
 
 abbrev pub value : List ℕ → ℕ
 value r = le_at 2 r 2
+
+-- the kind of call that byte 0 names
+abbrev pub kind_of : ℕ → Option Kind
+kind_of n =
+    pick (eqb n 1) (Some K.TailWrite)
+    (pick (eqb n 2) (Some K.HeadWrite) (pick (eqb n 3) (Some K.Start) (pick (eqb n 4) (Some K.Finish) None)))
+
+-- the place of the first spare byte of a record
+abbrev pub first_spare : Kind → ℕ
+first_spare K.TailWrite = 4
+first_spare K.HeadWrite = 4
+first_spare K.Start = 1
+first_spare K.Finish = 4
 
 -- some byte is not zero
 abbrev pub any_set : List ℕ → Bool
@@ -36,8 +51,8 @@ call_in r =
     (pick (eqb (sent r) 2) (R.HeadWrite (target r) (value r)) (pick (eqb (sent r) 3) R.Start (R.Finish (target r) (value r))))
 
 -- a record of these bytes: 16, or fewer for a last short one
-unfoldable pub record_in : List ℕ → Record
-record_in r = settle (first_match (record_rules r)) R.Refused (call_in r)
+unfoldable pub record_in : List ℕ → Result Record ℕ
+record_in r = settle (first_match (record_rules r)) Err (Ok (call_in r))
 
 -- what a record asks for: a call, or none, by its number
 pub data Asked : Type 0 where
@@ -45,13 +60,13 @@ pub data Asked : Type 0 where
   none : ℕ → Asked
 
 -- the papers' number and values for each record; "A finish takes the value as status and 0 as result"
-abbrev pub asked : Record → Asked
-asked (R.TailWrite queue value) = call (tail_write queue value)
-asked (R.HeadWrite queue value) = call (head_write queue value)
-asked R.Start = call start
-asked (R.Finish tag status) = call (finish tag status 0)
-asked (R.Refused n) = none n
-asked R.End = none 0
+abbrev pub asked : Result Record ℕ → Asked
+asked (Ok (R.TailWrite queue value)) = call (tail_write queue value)
+asked (Ok (R.HeadWrite queue value)) = call (head_write queue value)
+asked (Ok R.Start) = call start
+asked (Ok (R.Finish tag status)) = call (finish tag status 0)
+asked (Err n) = none n
+asked (Ok R.End) = none 0
 
 -- the number of what a record asks for: 0 for a call
 abbrev pub number_in : Asked → ℕ

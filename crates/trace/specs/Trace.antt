@@ -1,5 +1,5 @@
 -- A plant's trace: records of 16 bytes, no header.
-use Rattle.std.specs.Prelude.{ℕ, zero, suc, ◌+◌, ◌/◌, min, List, [], ◌∷◌, ◌++◌, ltb, leb, length, take, drop}
+use Rattle.std.specs.Prelude.{ℕ, zero, suc, ◌+◌, ◌/◌, min, List, [], ◌∷◌, ◌++◌, ltb, leb, length, take, drop, Result, Ok}
 use Rattle.rules.specs.Rules.{pick, first_match}
 use Rattle.le.specs.Memory.{part}
 use Rattle.controller.specs.Calls.{Call}
@@ -25,8 +25,8 @@ calls_in [] = []
 calls_in (r ∷ rs) = asked_calls (asked (record_in r)) ++ calls_in rs
 
 -- what stands at a place of a trace
-unfoldable pub record_at : List ℕ → ℕ → Record
-record_at t place = pick (ltb place (length t)) (record_in (part t place 16)) End
+unfoldable pub record_at : List ℕ → ℕ → Result Record ℕ
+record_at t place = pick (ltb place (length t)) (record_in (part t place 16)) (Ok End)
 
 -- the number of what stands there: 0 where nothing does, else that of the record
 abbrev pub refusal_at : List ℕ → ℕ → ℕ

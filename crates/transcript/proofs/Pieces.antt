@@ -55,23 +55,8 @@ module _ (trace answers : List ℕ) where
 
     -- before it the one there, and those 16 bytes on
     module _ (h : place < length trace) where
-      last : length trace < place + 16 → records_from trace (next_at trace place) ≡ records_from trace (place + 16)
-      unfolding next_at
-      last l =
-          let n : length trace ≤ next_at trace place = omega arith in
-          at_end trace (next_at trace place) n ∙ sym (at_end trace (place + 16) (omega arith))
-
-      whole : place + 16 ≤ length trace → records_from trace (next_at trace place) ≡ records_from trace (place + 16)
-      unfolding next_at
-      whole l = let n : next_at trace place ≡ place + 16 = omega arith in ap (records_from trace) n
-
-      on : records_from trace place ≡ part trace place 16 ∷ records_from trace (place + 16)
-      on =
-          unrolled trace place h
-          ∙ ap (λ (rs : List (List ℕ)). part trace place 16 ∷ rs) (⊎_elim last whole (lt_or_ge (length trace) (place + 16)))
-
       unroll : left trace answers place ≡ (part trace place 16, take 16 (drop place answers)) ∷ left trace answers (place + 16)
-      unroll = rw (on, drop-drop 16 place answers)
+      unroll = rw (unrolled trace place h, drop-drop 16 place answers)
 
       -- by what the code reads
       module _ {n end : ℕ} (e : n ≡ le_at 1 answers (place + 1)) (f : end ≡ next_at trace place) where

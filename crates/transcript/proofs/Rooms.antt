@@ -1,4 +1,5 @@
 -- The room that a caller needs. Assumes nothing.
+use Rattle.std.specs.Prelude.{Result, Ok, Err}
 use Rattle.std.proofs.Common.{
   ◌≡◌,
   ℕ,
@@ -81,13 +82,13 @@ wrong_most r =
           (wrong_byte r)),
     )
 
-asks_most : (r : List ℕ) (x : Record) → length (asks r x) ≤ 63
-asks_most r (R.TailWrite q v) = omega (arith, pair_most (bytes "tail write, SQ") q (bytes ", value") v)
-asks_most r (R.HeadWrite q v) = omega (arith, pair_most (bytes "head write, CQ") q (bytes ", value") v)
-asks_most r R.Start = omega arith
-asks_most r (R.Finish t s) = omega (arith, pair_most (bytes "finish, tag") t (bytes ", status") s)
-asks_most r (R.Refused n) = one_most (ltb (length r) 16) (short_text r) (wrong_text r) 63 (short_most r) (wrong_most r)
-asks_most r R.End = omega arith
+asks_most : (r : List ℕ) (x : Result Record ℕ) → length (asks r x) ≤ 63
+asks_most r (Ok (R.TailWrite q v)) = omega (arith, pair_most (bytes "tail write, SQ") q (bytes ", value") v)
+asks_most r (Ok (R.HeadWrite q v)) = omega (arith, pair_most (bytes "head write, CQ") q (bytes ", value") v)
+asks_most r (Ok R.Start) = omega arith
+asks_most r (Ok (R.Finish t s)) = omega (arith, pair_most (bytes "finish, tag") t (bytes ", status") s)
+asks_most r (Ok R.End) = omega arith
+asks_most r (Err n) = one_most (ltb (length r) 16) (short_text r) (wrong_text r) 63 (short_most r) (wrong_most r)
 
 asked_most : (r : List ℕ) → length (asked_text r) ≤ 63
 unfolding asked_text

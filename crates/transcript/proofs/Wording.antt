@@ -1,4 +1,5 @@
 -- The texts of a record's line, case by case. Assumes nothing.
+use Rattle.std.specs.Prelude.{Result, Ok, Err}
 use Rattle.std.proofs.Common.{◌≡◌, ℕ, ◌+◌, ◌<◌, ◌≤◌, List, [], ◌++◌, length, sym, ap, ◌∙◌, arith, take_all, le-ltb, lt-ltb, ne_eqb}
 use Rattle.rules.specs.Rules.{settle}
 use Rattle.rules.proofs.Tables.{settle_refused, settle_accepted}
@@ -7,7 +8,6 @@ use Rattle.le.specs.Memory.{part}
 use Rattle.trace.specs.Record.{sent, record_in}
 use Rattle.trace.specs.Trace.{record_at}
 use Rattle.trace.specs.declared.Record.{Record}
-use Rattle.trace.specs.declared.Record.TheVariants as R
 use Rattle.print.specs.Text.{bytes}
 use Rattle.refusals.specs.Named.{named, pair, refused_text}
 use Rattle.transcript.specs.Record.{wrong_byte, call_name, short_text, wrong_text, asks, asked_text}
@@ -51,26 +51,27 @@ module _ (r : List ℕ) where
   pub asked_short : length r < 16 → short_text r ≡ asked_text r
   unfolding asked_text record_in settle
   asked_short h =
-      let i : short_text r ≡ asks r (R.Refused 31) = rw (lt-ltb (length r) 16 h) in
-      let e : R.Refused 31 ≡ record_in r = rw (lt-ltb (length r) 16 h) in
+      let i : short_text r ≡ asks r (Err 31) = rw (lt-ltb (length r) 16 h) in
+      let e : Err 31 ≡ record_in r = rw (lt-ltb (length r) 16 h) in
       i ∙ ap (asks r) e
 
-  module _ (w : 16 ≤ length r) (l : length r ≤ 16) {x : Record} (e : x ≡ record_at r 0) where
-    pub read_as : x ≡ record_in r
+  module _ (w : 16 ≤ length r) (l : length r ≤ 16) where
+    pub read_as : {x : Result Record ℕ} → x ≡ record_at r 0 → x ≡ record_in r
     unfolding record_at part
-    read_as =
+    read_as e =
         let t : part r 0 16 ≡ r = take_all 16 r l in
         let i : record_at r 0 ≡ record_in (part r 0 16) = rw (lt-ltb 0 (length r) (omega arith)) in
         e ∙ i ∙ ap record_in t
 
-    pub asked_as : {y : Record} → x ≡ y → asks r y ≡ asked_text r
+    pub asked_as : {x y : Record} → Ok x ≡ record_at r 0 → x ≡ y → asks r (Ok y) ≡ asked_text r
     unfolding asked_text
-    asked_as f = ap (asks r) (sym f ∙ read_as)
+    asked_as {x} e f = ap (λ (z : Record). asks r (Ok z)) (sym f) ∙ ap (asks r) (read_as e)
 
-    pub asked_wrong : {n : ℕ} → x ≡ R.Refused n → wrong_text r ≡ asked_text r
-    asked_wrong {n} f =
-        let i : wrong_text r ≡ asks r (R.Refused n) = rw (le-ltb (length r) 16 w) in
-        i ∙ asked_as f
+    pub asked_wrong : {n : ℕ} → Err n ≡ record_at r 0 → wrong_text r ≡ asked_text r
+    unfolding asked_text
+    asked_wrong {n} e =
+        let i : wrong_text r ≡ asks r (Err n) = rw (le-ltb (length r) 16 w) in
+        i ∙ ap (asks r) (read_as e)
 
 -- ---- what came of it
 

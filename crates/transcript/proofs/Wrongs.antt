@@ -1,36 +1,13 @@
 -- The byte that is wrong in a record that asks for no call. Assumes nothing.
-use Rattle.std.proofs.Common.{
-  ◌≡◌,
-  ℕ,
-  suc,
-  ◌+◌,
-  ◌<◌,
-  ◌≤◌,
-  Bool,
-  true,
-  false,
-  eqb,
-  List,
-  length,
-  get_or,
-  drop,
-  sym,
-  refl,
-  ap,
-  ◌∙◌,
-  ⊎_elim,
-  add-one,
-  arith,
-  drop_of_length-le,
-  drop-cons,
-  le-ltb,
-  eq-eqb,
-  ne_eqb,
-}
+use Rattle.std.specs.Prelude.{Some, None, Ok, Err}
+use Rattle.std.proofs.Common.{◌≡◌, ℕ, suc, ◌+◌, ◌<◌, ◌≤◌, true, false, List, length, get_or, drop, sym, refl, ap, ◌∙◌, ⊎_elim, add-one, drop_of_length-le, drop-cons, le-ltb, eq-eqb, ne_eqb}
 use Rattle.rules.specs.Rules.{pick, settle, outside_of}
-use Rattle.rules.proofs.Tests.{bool_cases, lt_or_ge, clash, in_range, below_range, above_range}
-use Rattle.trace.specs.Record.{sent, target, value, any_set, spares, record_in}
-use Rattle.trace.specs.declared.Record.TheVariants as R
+use Rattle.rules.proofs.Tests.{bool_cases, lt_or_ge, clash}
+use Rattle.trace.specs.Record.{sent, any_set, spares, call_in, record_in}
+use Rattle.trace.specs.declared.Kind.{Kind}
+use Rattle.trace.specs.declared.Kind.TheVariants as K
+use Rattle.trace.specs.Record.{kind_of}
+use Rattle.trace.proofs.Wholes.{numbered, number_of_kind, start_only, known_in, unknown_out}
 use Rattle.transcript.specs.Record.{first_set, wrong_byte, Wrong}
 
 -- ---- the first byte that is set, from place i on
@@ -58,52 +35,44 @@ module _ (bs : List ℕ) (i : ℕ) where
 -- ---- the byte of a record
 
 module _ (r : List ℕ) {call : ℕ} (c : call ≡ sent r) where
-  pub wrong_low : call < 1 → 0 ≡ wrong_byte r
+  pub wrong_unknown : None ≡ kind_of call → 0 ≡ wrong_byte r
   unfolding wrong_byte
-  wrong_low h = rw (below_range 1 4 (sent r) (omega arith))
+  wrong_unknown e = rw (← c, unknown_out call e)
 
-  pub wrong_high : 1 ≤ call → 4 < call → 0 ≡ wrong_byte r
-  unfolding wrong_byte
-  wrong_high l h = rw (above_range 1 4 (sent r) (omega arith) (omega arith))
-
-  module _ (l : 1 ≤ call) (h : call ≤ 4) where
+  module _ {k : Kind} (e : Some k ≡ kind_of call) where
     known : outside_of 1 4 (sent r) ≡ false
-    known = in_range 1 4 (sent r) (omega arith) (omega arith)
+    known = rw (← c) (known_in call e)
 
-    module _ (s : call ≡ 3) where
+    module _ (s : k ≡ K.Start) where
+      three : sent r ≡ 3
+      three = sym c ∙ number_of_kind e s
+
       pub set_start : Wrong r → any_set (drop 1 r) ≡ true
-      set_start w = rw (← ap (λ b. any_set (drop (pick b 1 4) r)) (eq-eqb (sent r) 3 (sym c ∙ s))) (w.spare known)
+      set_start w = rw (← ap (λ b. any_set (drop (pick b 1 4) r)) (eq-eqb (sent r) 3 three)) (w.spare known)
 
       pub wrong_start : 1 + first_set (drop 1 r) ≡ wrong_byte r
       unfolding wrong_byte
-      wrong_start = rw (known, eq-eqb (sent r) 3 (sym c ∙ s))
+      wrong_start = rw (known, eq-eqb (sent r) 3 three)
 
-    module _ (d : call ≡ 3 → ⊥) where
+    module _ (d : k ≡ K.Start → ⊥) where
+      not_three : sent r ≡ 3 → ⊥
+      not_three z = d (start_only k (sym (numbered call e) ∙ c ∙ z))
+
       pub set_other : Wrong r → any_set (drop 4 r) ≡ true
-      set_other w = rw (← ap (λ b. any_set (drop (pick b 1 4) r)) (ne_eqb (sent r) 3 (λ z. d (c ∙ z)))) (w.spare known)
+      set_other w = rw (← ap (λ b. any_set (drop (pick b 1 4) r)) (ne_eqb (sent r) 3 not_three)) (w.spare known)
 
       pub wrong_other : 4 + first_set (drop 4 r) ≡ wrong_byte r
       unfolding wrong_byte
-      wrong_other = rw (known, ne_eqb (sent r) 3 (λ z. d (c ∙ z)))
+      wrong_other = rw (known, ne_eqb (sent r) 3 not_three)
 
 -- ---- a whole record that is refused has one
 
-no_refusal : (a b c : Bool) (q v n : ℕ)
-    → R.Refused n ≡ pick a (R.TailWrite q v) (pick b (R.HeadWrite q v) (pick c R.Start (R.Finish q v))) → ⊥
-no_refusal true b c q v n e = let z : ◌≡◌ {A = ℕ} 0 1 = cc in omega arith
-no_refusal false true c q v n e = let z : ◌≡◌ {A = ℕ} 0 1 = cc in omega arith
-no_refusal false false true q v n e = let z : ◌≡◌ {A = ℕ} 0 1 = cc in omega arith
-no_refusal false false false q v n e = let z : ◌≡◌ {A = ℕ} 0 1 = cc in omega arith
-
-module _ (r : List ℕ) (w : 16 ≤ length r) (n : ℕ) (e : R.Refused n ≡ record_in r) where
+module _ (r : List ℕ) (w : 16 ≤ length r) (n : ℕ) (e : Err n ≡ record_in r) where
   unset : outside_of 1 4 (sent r) ≡ false → any_set (spares r) ≡ false → ⊥
   unfolding record_in settle
   unset o s =
-      let i : record_in r
-      ≡ pick (eqb (sent r) 1) (R.TailWrite (target r) (value r))
-      (pick (eqb (sent r) 2) (R.HeadWrite (target r) (value r)) (pick (eqb (sent r) 3) R.Start (R.Finish (target r) (value r)))) =
-      rw (le-ltb (length r) 16 w, o, s) in
-      no_refusal (eqb (sent r) 1) (eqb (sent r) 2) (eqb (sent r) 3) (target r) (value r) n (e ∙ i)
+      let i : record_in r ≡ Ok (call_in r) = rw (le-ltb (length r) 16 w, o, s) in
+      cc (e, i)
 
   pub wrong : Wrong r
   wrong =

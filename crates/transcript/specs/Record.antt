@@ -1,5 +1,5 @@
 -- A record of a trace and its answer record, on a line.
-use Rattle.std.specs.Prelude.{◌≡◌, ℕ, suc, ◌+◌, ◌≤◌, true, false, List, [], ◌∷◌, ◌++◌, length, ◌==◌, nat_lt}
+use Rattle.std.specs.Prelude.{◌≡◌, ℕ, suc, ◌+◌, ◌≤◌, true, false, List, [], ◌∷◌, ◌++◌, length, ◌==◌, nat_lt, Result, Ok, Err}
 use Rattle.rules.specs.Rules.{pick, settle, outside_of}
 use Rattle.le.specs.Le.{le_at}
 use Rattle.trace.specs.Record.{sent, any_set, spares, record_in}
@@ -41,13 +41,13 @@ abbrev pub wrong_text : List ℕ → List ℕ
 wrong_text r = call_name (sent r) ++ pair (bytes "byte") (wrong_byte r) (bytes " is") (le_at 1 r (wrong_byte r))
 
 -- by what its bytes r are read as
-abbrev pub asks : List ℕ → Record → List ℕ
-asks r (R.TailWrite queue value) = pair (bytes "tail write, SQ") queue (bytes ", value") value
-asks r (R.HeadWrite queue value) = pair (bytes "head write, CQ") queue (bytes ", value") value
-asks r R.Start = bytes "start"
-asks r (R.Finish tag status) = pair (bytes "finish, tag") tag (bytes ", status") status
-asks r (R.Refused n) = pick (nat_lt (length r) 16) (short_text r) (wrong_text r)
-asks r R.End = []
+abbrev pub asks : List ℕ → Result Record ℕ → List ℕ
+asks r (Ok (R.TailWrite queue value)) = pair (bytes "tail write, SQ") queue (bytes ", value") value
+asks r (Ok (R.HeadWrite queue value)) = pair (bytes "head write, CQ") queue (bytes ", value") value
+asks r (Ok R.Start) = bytes "start"
+asks r (Ok (R.Finish tag status)) = pair (bytes "finish, tag") tag (bytes ", status") status
+asks r (Err n) = pick (nat_lt (length r) 16) (short_text r) (wrong_text r)
+asks r (Ok R.End) = []
 
 unfoldable pub asked_text : List ℕ → List ℕ
 asked_text r = asks r (record_in r)

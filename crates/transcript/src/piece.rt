@@ -28,13 +28,16 @@ pub fn put_piece(out: &mut [u8], tally: Tally, trace: &[u8], answers: &[u8]) -> 
 {
     let mut after = tally;
     let mut to = 0;
-    let mut at = 0;
-    while at < trace.len() {
+    for at in (0..trace.len()).step_by(RECORD_BYTES) {
         let end = next_at(trace, at);
-        let next = at + RECORD_BYTES;
         after = after.with(le::get8(answers, at + 1));
-        to = put_record(out, to, after.records, &trace[at..end], &answers[at..next]);
-        at = next;
+        to = put_record(
+            out,
+            to,
+            after.records,
+            &trace[at..end],
+            &answers[at..at + RECORD_BYTES],
+        );
     }
     Written {
         end: to,

@@ -19,19 +19,19 @@ ghost use Rattle.transcript.specs.Record.{
 use print::{put, put_end};
 use refusals::named::{put_named, put_pair};
 use refusals::put_refused;
-use trace::{RECORD_BYTES, Record, read};
+use trace::{Kind, RECORD_BYTES, Record, read};
 
 // The name of a call that is known, before what is wrong with its record.
 fn put_name(out: &mut [u8], at: usize, call: u64) -> usize
     requires { at + length (call_name call) ≤ length out.old }
     ensures { Put out.old at (call_name call) out.new result }
 {
-    match call {
-        1 => put(out, at, b"tail write, "),
-        2 => put(out, at, b"head write, "),
-        3 => put(out, at, b"start, "),
-        4 => put(out, at, b"finish, "),
-        _ => at,
+    match Kind::of_byte(call) {
+        Some(Kind::TailWrite) => put(out, at, b"tail write, "),
+        Some(Kind::HeadWrite) => put(out, at, b"head write, "),
+        Some(Kind::Start) => put(out, at, b"start, "),
+        Some(Kind::Finish) => put(out, at, b"finish, "),
+        None => at,
     }
 }
 
@@ -40,11 +40,12 @@ fn first_set(bytes: &[u8], from: usize) -> usize
     requires { any_set (drop from bytes.now) ≡ true }
     ensures { (result ≡ from + first_set (drop from bytes.now)) × (result < length bytes.now) }
 {
-    let mut i = from;
-    while bytes[i] == 0 {
-        i += 1;
+    for i in from..bytes.len() {
+        if bytes[i] != 0 {
+            return i;
+        }
     }
-    i
+    unreachable!()
 }
 
 // The byte that is wrong: byte 0 of an unknown call, else the first spare byte that is not zero.
@@ -52,16 +53,11 @@ fn wrong_byte(bytes: &[u8], call: u64) -> usize
     requires { Wrong bytes.now × (call ≡ sent bytes.now) }
     ensures { (result ≡ wrong_byte bytes.now) × (result < length bytes.now) }
 {
-    if call < 1 {
-        return 0;
+    match Kind::of_byte(call) {
+        None => 0,
+        Some(Kind::Start) => first_set(bytes, 1),
+        Some(_) => first_set(bytes, 4),
     }
-    if 4 < call {
-        return 0;
-    }
-    if call == 3 {
-        return first_set(bytes, 1);
-    }
-    first_set(bytes, 4)
 }
 
 // What is wrong with a record that asks for no call.
@@ -93,7 +89,7 @@ fn put_asked(out: &mut [u8], at: usize, bytes: &[u8]) -> usize
         return put_short(out, at, bytes);
     }
     match read(bytes, 0) {
-        Record::TailWrite(queue, value) => put_pair(
+        Ok(Record::TailWrite(queue, value)) => put_pair(
             out,
             at,
             b"tail write, SQ",
@@ -101,7 +97,7 @@ fn put_asked(out: &mut [u8], at: usize, bytes: &[u8]) -> usize
             b", value",
             value as u64,
         ),
-        Record::HeadWrite(queue, value) => put_pair(
+        Ok(Record::HeadWrite(queue, value)) => put_pair(
             out,
             at,
             b"head write, CQ",
@@ -109,8 +105,8 @@ fn put_asked(out: &mut [u8], at: usize, bytes: &[u8]) -> usize
             b", value",
             value as u64,
         ),
-        Record::Start => put(out, at, b"start"),
-        Record::Finish(tag, status) => put_pair(
+        Ok(Record::Start) => put(out, at, b"start"),
+        Ok(Record::Finish(tag, status)) => put_pair(
             out,
             at,
             b"finish, tag",
@@ -118,8 +114,8 @@ fn put_asked(out: &mut [u8], at: usize, bytes: &[u8]) -> usize
             b", status",
             status as u64,
         ),
-        Record::Refused(_) => put_wrong(out, at, bytes),
-        Record::End => at,
+        Err(_) => put_wrong(out, at, bytes),
+        Ok(Record::End) => at,
     }
 }
 
@@ -128,9 +124,9 @@ fn put_done(out: &mut [u8], at: usize, call: u64, res: u64) -> usize
     requires { at + length (done_text call res) ≤ length out.old }
     ensures { Put out.old at (done_text call res) out.new result }
 {
-    match call {
-        3 => put_named(out, at, b"done, tag", res),
-        4 => put_named(out, at, b"done, slot", res),
+    match Kind::of_byte(call) {
+        Some(Kind::Start) => put_named(out, at, b"done, tag", res),
+        Some(Kind::Finish) => put_named(out, at, b"done, slot", res),
         _ => put(out, at, b"done"),
     }
 }

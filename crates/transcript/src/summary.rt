@@ -26,7 +26,7 @@ pub struct Tally {
 fn plus_one(n: u64) -> u64
     ensures { result ≡ one_more n }
 {
-    std::num::wrapping_add_u64(n, 1)
+    n.wrapping_add(1)
 }
 
 // Counts a call, unless the refusal number says that the record asked for none.
@@ -117,12 +117,9 @@ pub fn put_summary(out: &mut [u8], tally: Tally) -> usize
     requires { length (summary_text tally) ≤ length out.old }
     ensures { Put out.old 0 (summary_text tally) out.new result }
 {
-    let numbers = tally.numbers;
     let mut to = put_counts(out, 0, tally);
-    let mut i: usize = 1;
-    while i < NUMBERS {
-        to = put_row(out, to, i as u64, numbers[i]);
-        i += 1;
+    for i in 1..NUMBERS {
+        to = put_row(out, to, i as u64, tally.numbers[i]);
     }
     to
 }

@@ -1,77 +1,83 @@
 -- `finish` meets its contract. Assumes nothing.
-use mathlib.Core.Path.{refl}
+use lib.ListN.{length}
+use Rattle.std.proofs.lemmas.Result.{err_from_is_err_and}
+use Rattle.controller.specs.State.{sq_at, command_at}
 use Rattle.controller.proofs.Validity.{valid}
 use Rattle.store.specs.Held.{held}
-use Rattle.finisher.proofs.Finishes.{refused_call, past_call, postable, finish_refused, finish_done}
-use Rattle.finisher.proofs.Finishes.{on_posting_lem, cq_below, second_below, ring_ok, phase_below, within, status_below}
+use Rattle.finisher.proofs.Finishes.{Postable, queue_of, refused_call, postable, read_postable, on_posting_lem, finish_refused, finish_done}
 use Rattle.finisher.proofs.finish.Goals as goal
+use Rattle.finisher.proofs.finish.Goals.{In_ok-may_finish, After-cq_at-y}
+
+-- what is known once the call may be made, and of the command and its queues as they were read
+called :
+    (c : In_ok-may_finish)
+    → let d = held c.args.state.now in
+    let k = command_at d c.args.tag in
+    Postable k (sq_at d k.sq) (queue_of d c.args.tag) (length c.args.memory.now) c.args.tag c.args.status
+called c =
+    postable _ _ _ _ c.in_ok-may_finish.ensures (valid c.requires.reachable)
+
+known :
+    (c : After-cq_at-y)
+    → Postable c.command_at-k.result c.sq_at-x.result c.cq_at-y.result (length c.args.memory.now) c.args.tag c.args.status
+known c =
+    read_postable _ _ c.command_at-k.ensures c.sq_at-x.ensures c.cq_at-y.ensures _ _ c.in_ok-may_finish.ensures
+    (valid c.requires.reachable)
 
 -- ---- the needs
-pub returns-then-refusal-ne0 : goal.returns-then-refusal-ne0
-returns-then-refusal-ne0 c = (
-  c.requires.sound,
-  finish_refused _ _ _ _ _ (refused_call _ _ _ _ c.call_refusal-refusal.ensures c.if-refusal-ne0.true)
-      c.if-refusal-ne0.true,
-)
+pub returns-in_err-may_finish : goal.returns-in_err-may_finish
+returns-in_err-may_finish c =
+    let p = err_from_is_err_and c.from_residual.result c.from_residual.ensures.1 in
+    rw (p.1, p.2) (c.requires.sound, finish_refused _ _ _ _ _ _ (refused_call _ _ _ _ _ c.in_err-may_finish.ensures))
 
 pub command_at-k-requires : goal.command_at-k-requires
 command_at-k-requires c =
-    (postable _ _ _ _ c.call_refusal-refusal.ensures c.if-refusal-ne0.false (valid c.requires.reachable)).tag_low
+    (called (goal.at.command_at-k-requires c).In_ok-may_finish).tag_low
 
 pub sq_at-x-requires : goal.sq_at-x-requires
 sq_at-x-requires c =
-    let p = postable _ _ _ _ c.call_refusal-refusal.ensures c.if-refusal-ne0.false (valid c.requires.reachable) in
-    rw c.command_at-k.ensures p.sq_low
+    rw c.command_at-k.ensures (called (goal.at.sq_at-x-requires c).In_ok-may_finish).sq_low
 
 pub cq_at-y-requires : goal.cq_at-y-requires
 cq_at-y-requires c =
-    cq_below _ _ c.command_at-k.ensures c.sq_at-x.ensures refl _ _
-    (postable _ _ _ _ c.call_refusal-refusal.ensures c.if-refusal-ne0.false (valid c.requires.reachable))
+    rw (c.sq_at-x.ensures, c.command_at-k.ensures) (called (goal.at.cq_at-y-requires c).In_ok-may_finish).cq_low
 
-pub posting_refusal-refusal-requires : goal.posting_refusal-refusal-requires
-posting_refusal-refusal-requires c =
-    ring_ok _ _ c.command_at-k.ensures c.sq_at-x.ensures c.cq_at-y.ensures _ _
-    (postable _ _ _ _ c.call_refusal-refusal.ensures c.if-refusal-ne0.false (valid c.requires.reachable))
+pub may_post-requires : goal.may_post-requires
+may_post-requires c =
+    (known (goal.at.may_post-requires c).After-cq_at-y).ring
 
-pub returns-then-refusal-ne0-2 : goal.returns-then-refusal-ne0-2
-returns-then-refusal-ne0-2 c = (
-  c.requires.sound,
-  finish_refused _ _ _ _ _ (past_call _ _ _ _ c.call_refusal-refusal.ensures c.if-refusal-ne0.false
-      (on_posting_lem (held c.args.state.now) c.args.tag c.command_at-k.ensures c.sq_at-x.ensures c.cq_at-y.ensures
-      c.posting_refusal-refusal.ensures)) c.if-refusal-ne0-2.true,
-)
+pub returns-in_err-may_post : goal.returns-in_err-may_post
+returns-in_err-may_post c =
+    let p = err_from_is_err_and c.from_residual-in_err-may_post.result c.from_residual-in_err-may_post.ensures.1 in
+    rw (p.1, p.2) (
+      c.requires.sound,
+      finish_refused _ _ _ _ _ _ (on_posting_lem _ _ c.command_at-k.ensures c.sq_at-x.ensures c.cq_at-y.ensures
+          _ _ c.in_ok-may_finish.ensures c.in_err-may_post.ensures),
+    )
 
 pub post-requires : goal.post-requires
 post-requires c =
-    let e = c.command_at-k.ensures in
-    let f = c.sq_at-x.ensures in
-    let g = c.cq_at-y.ensures in
-    let p = postable _ _ _ _ c.call_refusal-refusal.ensures c.if-refusal-ne0.false (valid c.requires.reachable) in
-    (ring_ok _ _ e f g _ _ p, within _ _ e f g _ _ p, status_below _ _ e f g _ _ p c.status_of-given.ensures)
+    let p = known (goal.at.post-requires c).After-cq_at-y in
+    (p.ring, p.within, rw c.status_of-given.ensures p.status_low)
 
 pub move_on-requires : goal.move_on-requires
 move_on-requires c =
-    let e = c.command_at-k.ensures in
-    let f = c.sq_at-x.ensures in
-    let g = c.cq_at-y.ensures in
-    let p = postable _ _ _ _ c.call_refusal-refusal.ensures c.if-refusal-ne0.false (valid c.requires.reachable) in
-    (cq_below _ _ e f g _ _ p, c.requires.sound, ring_ok _ _ e f g _ _ p, phase_below _ _ e f g _ _ p, g)
+    let p = known (goal.at.move_on-requires c).After-cq_at-y in
+    (p.cq_low, c.requires.sound, p.ring, p.phase_low, c.cq_at-y.ensures)
 
 pub unlink-requires : goal.unlink-requires
-unlink-requires c = (
-  second_below _ _ c.command_at-k.ensures c.sq_at-x.ensures c.cq_at-y.ensures _ _
-      (postable _ _ _ _ c.call_refusal-refusal.ensures c.if-refusal-ne0.false (valid c.requires.reachable)),
-  c.move_on.ensures.sound,
-)
+unlink-requires c =
+    ((known (goal.at.unlink-requires c).After-cq_at-y).second_low, c.move_on.ensures.sound)
 
 pub returns : goal.returns
 returns c =
     let a = c.args in
+    let e = c.command_at-k.ensures in
+    let f = c.sq_at-x.ensures in
+    let h = c.cq_at-y.ensures in
     let g = c.give_back.ensures in (
       g.sound,
-      finish_done (held a.state.now) a.tag c.command_at-k.ensures c.sq_at-x.ensures c.cq_at-y.ensures
-          a.memory.now a.status a.res (past_call _ _ _ _ c.call_refusal-refusal.ensures c.if-refusal-ne0.false
-          (on_posting_lem (held c.args.state.now) c.args.tag c.command_at-k.ensures c.sq_at-x.ensures c.cq_at-y.ensures
-          c.posting_refusal-refusal.ensures)) c.if-refusal-ne0-2.false _ _ _ c.status_of-given.ensures c.post.ensures
-          c.move_on.ensures.is c.unlink.ensures.is g.is,
+      finish_done (held a.state.now) a.tag e f h a.memory.now a.status a.res
+          (on_posting_lem _ _ e f h _ _ c.in_ok-may_finish.ensures c.in_ok-may_post.ensures) _ _ _ c.status_of-given.ensures
+          c.post.ensures c.move_on.ensures.is c.unlink.ensures.is g.is,
     )

@@ -2,5 +2,5 @@
 use Rattle.store.proofs.Fresh.{reached_new}
 use Rattle.playback.proofs.run.Goals as goal
 
-pub run-s-requires : goal.run-s-requires
-run-s-requires g c = reached_new _ _ c.new-fresh.ensures.1
+pub run-requires : goal.run-requires
+run-requires g c = reached_new _ _ c.new-fresh.ensures.1

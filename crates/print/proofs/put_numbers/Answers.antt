@@ -1,44 +1,28 @@
 -- `put_numbers` meets its contract: after i numbers the texts of the first i are put. Assumes nothing.
 use mathlib.Core.Path.{sym, ap}
-use Prim.Native.Nat.{◌≤◌, ◌<◌}
 use native.Mathlib.Omega.{arith}
-use lib.ListN.{length}
 use lib.Seq.{take_all}
 use Rattle.print.specs.Text.{next, numbers}
 use Rattle.print.proofs.Puts.{put_none, put_then, put_as, put_length}
 use Rattle.print.proofs.Texts.{each_none, each_more, each_room}
 use Rattle.print.proofs.put_numbers.Goals as goal
-use Rattle.print.proofs.put_numbers.Goals.{Start}
 
-pub loop-i-init : goal.loop-i-init
-loop-i-init c =
-    (omega arith, put_as (put_none _ _) (sym (each_none next)))
+pub loop-value-init : goal.loop-value-init
+loop-value-init c =
+    put_as (put_none _ _) (sym (each_none next))
 
 pub put_next-to-requires : goal.put_next-to-requires
 put_next-to-requires c =
-    let l = c.loop-i in
-    let h : l.i < length c.args.values.now = omega arith in
-    omega (arith, c.requires, each_room next c.args.values.now l.i h, l.invariant.1.ends, put_length l.invariant.1)
+    let l = c.loop-value in
+    let r = each_room next c.args.values.now l.value-index c.loop-value-test.true in
+    omega (arith, c.requires, r, l.invariant.ends, put_length l.invariant)
 
-pub loop-i-preserved : goal.loop-i-preserved
-loop-i-preserved c =
-    let l = c.loop-i in
-    let h : l.i < length c.args.values.now = omega arith in
-    (omega arith, put_as (put_then l.invariant.1 c.put_next-to.ensures) (each_more next c.args.values.now l.i h))
+pub loop-value-preserved : goal.loop-value-preserved
+loop-value-preserved c =
+    let l = c.loop-value in
+    put_as (put_then l.invariant c.put_next-to.ensures) (each_more next c.args.values.now l.value-index c.loop-value-test.true)
 
 pub returns : goal.returns
 returns c =
-    let h : length c.args.values.now ≤ c.loop-i.i = omega arith in
-    put_as c.loop-i.invariant.1 (ap numbers (take_all c.loop-i.i c.args.values.now h))
-
-pub bounds-values-i : goal.bounds-values-i
-bounds-values-i c =
-    omega arith
-
-pub overflow_add-i : goal.overflow_add-i
-overflow_add-i c =
-    omega arith
-
-pub loop-i-smaller : goal.loop-i-smaller
-loop-i-smaller c =
-    omega arith
+    let l = c.loop-value in
+    put_as l.invariant (ap numbers (take_all l.value-index c.args.values.now c.loop-value-test.false))

@@ -1,14 +1,9 @@
 -- `put_numbers` meets its contract: after i numbers the texts of the first i are put. Assumes nothing.
-use Prim.Native.Nat.{◌≤◌, ◌-◌}
-use lib.ListN.{length, take}
+use lib.ListN.{take}
 use Rattle.print.specs.Put.{Put}
 use Rattle.print.specs.Text.{numbers}
 use Rattle.print.proofs.put_numbers.Given as goal
 
-abbrev pub invariant-loop-i : goal.invariant-loop-i
-invariant-loop-i l =
-    (l.i ≤ length l.values) × Put l.initial.out l.at (numbers (take l.i l.values)) l.out l.to
-
-abbrev pub decreases-loop-i : goal.decreases-loop-i
-decreases-loop-i l =
-    length l.values - l.i
+abbrev pub invariant-loop-value : goal.invariant-loop-value
+invariant-loop-value l =
+    Put l.initial.out l.at (numbers (take l.value-index l.values)) l.out l.to

@@ -18,15 +18,15 @@ unfolding data_pages answer
 returns-then-count-eq1 c prp1 =
     rw c.if-count-eq1.true refl
 
-pub returns-then-page_offset-ne0 : goal.returns-then-page_offset-ne0
+pub returns-then-offset-ne0 : goal.returns-then-offset-ne0
 unfolding data_pages answer
-returns-then-page_offset-ne0 c prp1 =
-    rw (c.if-count-eq2.true, ne_eqb _ 0 (λ h. c.if-page_offset-ne0.true (c.page_offset.ensures.0 ∙ h))) refl
+returns-then-offset-ne0 c prp1 =
+    rw (c.if-count-eq2.true, ne_eqb _ 0 (λ h. c.if-offset-ne0.true (c.offset.ensures.0 ∙ h))) refl
 
 pub returns-then-count-eq2 : goal.returns-then-count-eq2
 unfolding data_pages answer
 returns-then-count-eq2 c prp1 =
-    rw (c.if-count-eq2.true, eq-eqb _ 0 (sym c.page_offset.ensures.0 ∙ c.if-page_offset-ne0.false)) refl
+    rw (c.if-count-eq2.true, eq-eqb _ 0 (sym c.offset.ensures.0 ∙ c.if-offset-ne0.false)) refl
 
 pub returns-then-prp2-ne0 : goal.returns-then-prp2-ne0
 unfolding data_pages answer

@@ -31,65 +31,65 @@ pub pages-init : goal.pages-init
 pages-init c =
     (begin (search rules), search rules)
 
-pub entries_left-requires : goal.entries_left-requires
-entries_left-requires c =
-    (search rules, c.pages.invariant.1)
+pub entries_from-requires : goal.entries_from-requires
+entries_from-requires c =
+    c.pages.invariant.1
 
-pub loop-walked-init : goal.loop-walked-init
-loop-walked-init c =
-    (c.pages.invariant.0, begin_run _ (page_low c.args.page) c.entries_left.ensures c.smaller-more.ensures)
+pub entries-init : goal.entries-init
+entries-init c =
+    (c.pages.invariant.0, begin_run _ (page_low c.args.page.number) c.entries_from.ensures c.min-more.ensures)
 
 pub overflow_add-reads : goal.overflow_add-reads
 overflow_add-reads c =
     let a = c.args in
-    let t = c.loop-walked.invariant.0 in
-    omega (arith, t.many, t.reads, pointers_few (page_size a.page) a.start a.count (page_low a.page) (omega arith))
+    let t = c.entries.invariant.0 in
+    omega (arith, t.many, t.reads, pointers_few (page_size a.page.number) a.start a.count (page_low a.page.number) (omega arith))
 
 pub pages-smaller : goal.pages-smaller
 pages-smaller c =
     let d =
-    read (page_size c.args.page) c.args.memory.now _ c.in_memory.ensures c.if-not-in_memory.false c.get64-entry.ensures.0
-    c.page_offset.ensures.0 c.if-page_offset-ne0.false in
-    (follow c.loop-walked.invariant.0 d c.loop-walked.invariant.1 (le_of_eq c.if-more-eq1.true) c.if-left-eq1.false).1
+    read (page_size c.args.page.number) c.args.memory.now _ c.in_memory.ensures c.if-not-in_memory.false c.get64-entry.ensures.0
+    c.offset.ensures.0 c.if-offset-ne0.false in
+    (follow c.entries.invariant.0 d c.entries.invariant.1 (le_of_eq c.if-more-eq1.true) c.if-left-eq1.false).1
 
 pub pages-preserved : goal.pages-preserved
 pages-preserved c =
     let d =
-    read (page_size c.args.page) c.args.memory.now _ c.in_memory.ensures c.if-not-in_memory.false c.get64-entry.ensures.0
-    c.page_offset.ensures.0 c.if-page_offset-ne0.false in
-    let t = follow c.loop-walked.invariant.0 d c.loop-walked.invariant.1 (le_of_eq c.if-more-eq1.true) c.if-left-eq1.false in
-    (t.0, omega (arith, d.aligned, page_eight c.args.page c.get64-entry.result))
+    read (page_size c.args.page.number) c.args.memory.now _ c.in_memory.ensures c.if-not-in_memory.false c.get64-entry.ensures.0
+    c.offset.ensures.0 c.if-offset-ne0.false in
+    let t = follow c.entries.invariant.0 d c.entries.invariant.1 (le_of_eq c.if-more-eq1.true) c.if-left-eq1.false in
+    (t.0, omega (arith, d.aligned, page_eight c.args.page.number c.get64-entry.result))
 
-pub loop-walked-preserved : goal.loop-walked-preserved
-loop-walked-preserved c =
+pub entries-preserved : goal.entries-preserved
+entries-preserved c =
     let d =
-    read (page_size c.args.page) c.args.memory.now _ c.in_memory.ensures c.if-not-in_memory.false c.get64-entry.ensures.0
-    c.page_offset.ensures.0 c.if-page_offset-ne0.false in
-    next c.loop-walked.invariant.0 d c.loop-walked.invariant.1 c.if-more-eq1.false
+    read (page_size c.args.page.number) c.args.memory.now _ c.in_memory.ensures c.if-not-in_memory.false c.get64-entry.ensures.0
+    c.offset.ensures.0 c.if-offset-ne0.false in
+    next c.entries.invariant.0 d c.entries.invariant.1 c.if-more-eq1.false
 
 pub returns-then-not-in_memory : goal.returns-then-not-in_memory
 unfolding counted in_memory
 returns-then-not-in_memory c =
-    rw (not_inside c.loop-walked.invariant.0 (leb-false _ _ (sym c.in_memory.ensures ∙ c.if-not-in_memory.true))) refl
+    rw (not_inside c.entries.invariant.0 (leb-false _ _ (sym c.in_memory.ensures ∙ c.if-not-in_memory.true))) refl
 
-pub returns-then-page_offset-ne0 : goal.returns-then-page_offset-ne0
+pub returns-then-offset-ne0 : goal.returns-then-offset-ne0
 unfolding counted
-returns-then-page_offset-ne0 c =
-    let t = c.loop-walked.invariant.0 in
+returns-then-offset-ne0 c =
+    let t = c.entries.invariant.0 in
     let lies = inside _ _ c.in_memory.ensures c.if-not-in_memory.false in
-    let d = c.page_offset.ensures.0 in
-    rw (not_aligned t lies (λ h. c.if-page_offset-ne0.true (d ∙ rw c.get64-entry.ensures.0 h))) refl
+    let d = c.offset.ensures.0 in
+    rw (not_aligned t lies (λ h. c.if-offset-ne0.true (d ∙ rw c.get64-entry.ensures.0 h))) refl
 
 pub returns-then-left-eq1 : goal.returns-then-left-eq1
 unfolding counted
 returns-then-left-eq1 c =
     let d =
-    read (page_size c.args.page) c.args.memory.now _ c.in_memory.ensures c.if-not-in_memory.false c.get64-entry.ensures.0
-    c.page_offset.ensures.0 c.if-page_offset-ne0.false in
-    let t = c.loop-walked.invariant.0 in
+    read (page_size c.args.page.number) c.args.memory.now _ c.in_memory.ensures c.if-not-in_memory.false c.get64-entry.ensures.0
+    c.offset.ensures.0 c.if-offset-ne0.false in
+    let t = c.entries.invariant.0 in
     let all = t.done ++ (c.get64-entry.result ∷ []) in
     let many : 1 + length all ≡ c.args.count + 1 = simp length-append (omega (arith, t.many)) in
-    rw (last t d (page_low c.args.page) c.if-left-eq1.true, many, zero-add) refl
+    rw (last t d (page_low c.args.page.number) c.if-left-eq1.true, many, zero-add) refl
 
 pub get64-entry-requires : goal.get64-entry-requires
 get64-entry-requires c =

@@ -5,19 +5,19 @@ use Rattle.prp.specs.Pages.{page_size}
 use Rattle.prp.proofs.Between.{pointers, Run, Between}
 use Rattle.prp.proofs.list_pages.Given as goal
 
-abbrev pub invariant-loop-walked : goal.invariant-loop-walked
-invariant-loop-walked l =
-    Between (page_size l.page) l.memory l.start l.count l.reads l.at l.left
-    × Run (page_size l.page) l.initial.at l.initial.left l.at l.left l.more
+abbrev pub invariant-entries : goal.invariant-entries
+invariant-entries l =
+    Between (page_size l.page.number) l.memory l.start l.count l.reads l.at l.left
+    × Run (page_size l.page.number) l.initial.at l.initial.left l.at l.left l.more
 
-abbrev pub decreases-loop-walked : goal.decreases-loop-walked
-decreases-loop-walked l =
+abbrev pub decreases-entries : goal.decreases-entries
+decreases-entries l =
     l.more
 
 abbrev pub invariant-pages : goal.invariant-pages
 invariant-pages l =
-    Between (page_size l.page) l.memory l.start l.count l.reads l.at l.left × (l.at % 8 ≡ 0)
+    Between (page_size l.page.number) l.memory l.start l.count l.reads l.at l.left × (l.at % 8 ≡ 0)
 
 abbrev pub decreases-pages : goal.decreases-pages
 decreases-pages l =
-    pointers (page_size l.page) l.at l.left
+    pointers (page_size l.page.number) l.at l.left

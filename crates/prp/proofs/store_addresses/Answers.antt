@@ -63,28 +63,28 @@ pub returns-then-count-eq1 : goal.returns-then-count-eq1
 unfolding numbers
 returns-then-count-eq1 c =
     let a = c.args in
-    let p = c.requires.page_bound.1 in
-    let one = one_page a.page a.memory.now a.prp1 a.prp2 a.count c.requires.found c.if-count-eq1.true in
-    stored a.page a.memory.now a.prp1 a.prp2 a.count c.requires.found a.addresses.now p.0 p.1.0 p.1.1 one c.put64.ensures refl
+    let p = c.requires.room in
+    let one = one_page a.page.number a.memory.now a.prp1 a.prp2 a.count c.requires.found c.if-count-eq1.true in
+    stored a.page.number a.memory.now a.prp1 a.prp2 a.count c.requires.found a.addresses.now p.0 p.1.0 p.1.1 one c.put64.ensures refl
 
 pub returns-then-count-eq2 : goal.returns-then-count-eq2
 returns-then-count-eq2 c =
     let a = c.args in
-    let p = c.requires.page_bound.1 in
-    let two = two_pages a.page a.memory.now a.prp1 a.prp2 a.count c.requires.found c.if-count-eq2.true in
-    stored a.page a.memory.now a.prp1 a.prp2 a.count c.requires.found a.addresses.now p.0 p.1.0 p.1.1 two c.put64.ensures
+    let p = c.requires.room in
+    let two = two_pages a.page.number a.memory.now a.prp1 a.prp2 a.count c.requires.found c.if-count-eq2.true in
+    stored a.page.number a.memory.now a.prp1 a.prp2 a.count c.requires.found a.addresses.now p.0 p.1.0 p.1.1 two c.put64.ensures
     (c.put64-then-count-eq2.ensures ∙ ap (sets _ 8) (numbers_one 8 a.prp2))
 
 pub store_list-requires : goal.store_list-requires
 store_list-requires c =
     let a = c.args in
-    let g = list_good a.page a.memory.now a.prp1 a.prp2 a.count c.requires.found c.if-count-eq1.false c.if-count-eq2.false in
-    record { page_bound = (search rules, (search rules, (search rules, (g.0, search rules)))); found = g.1.0 }
+    let g = list_good a.page.number a.memory.now a.prp1 a.prp2 a.count c.requires.found c.if-count-eq1.false c.if-count-eq2.false in
+    record { room = (search rules, (search rules, (g.0, search rules))); found = g.1.0 }
 
 pub returns : goal.returns
 returns c =
     let a = c.args in
-    let p = c.requires.page_bound.1 in
-    let g = list_good a.page a.memory.now a.prp1 a.prp2 a.count c.requires.found c.if-count-eq1.false c.if-count-eq2.false in
-    stored a.page a.memory.now a.prp1 a.prp2 a.count c.requires.found a.addresses.now p.0 p.1.0 p.1.1 g.1.1
+    let p = c.requires.room in
+    let g = list_good a.page.number a.memory.now a.prp1 a.prp2 a.count c.requires.found c.if-count-eq1.false c.if-count-eq2.false in
+    stored a.page.number a.memory.now a.prp1 a.prp2 a.count c.requires.found a.addresses.now p.0 p.1.0 p.1.1 g.1.1
     c.put64.ensures c.store_list.ensures

@@ -39,9 +39,9 @@ pub loop-i-init : goal.loop-i-init
 unfolding numbers byte_counts
 loop-i-init c =
     let a = c.args in
-    let ends = ends_touched (page_size a.page) a.prp1 a.len (page_low a.page) c.requires.page_bound.1.0 in
-    let p = c.page_size.ensures.0 in
-    let o = c.page_offset.ensures.0 in
+    let ends = ends_touched (page_size a.page.number) a.prp1 a.len (page_low a.page.number) c.requires.some.0 in
+    let p = c.size.ensures.0 in
+    let o = c.offset.ensures.0 in
     (omega arith, (refl, rw (sub-zero a.count, sub-zero (a.count - 1), p, o) (refl, rw c.requires.count_value.0 ends)))
 
 pub loop-i-preserved : goal.loop-i-preserved
@@ -50,19 +50,19 @@ loop-i-preserved c =
     let t = c.loop-i.invariant in
     -- a page before the last is full
     let full : c.loop-i.room < c.loop-i.left = ends_full (search rules) t.1.1.1 in
-    let s = stored (page_size a.page) a.prp1 a.len a.count _ _ _ _ _ c.loop-i.room t.1.0 t.1.1.0 (search rules) (omega (arith, full)) in
+    let s = stored (page_size a.page.number) a.prp1 a.len a.count _ _ _ _ _ c.loop-i.room t.1.0 t.1.1.0 (search rules) (omega (arith, full)) in
     let ends = ends_next (a.count - 1 - suc c.loop-i.i) (omega arith) t.1.1.1 in
-    rw (add-one, c.page_size-room.ensures.0) (omega arith, (c.put32.ensures ∙ s.0, (s.1, ends)))
+    rw (add-one, c.size-room.ensures.0) (omega arith, (c.put32.ensures ∙ s.0, (s.1, ends)))
 
 pub returns : goal.returns
 returns c =
     let a = c.args in
     let t = c.loop-i.invariant in
-    let each = all (page_size a.page) a.prp1 a.len a.count in
-    let sized : length each ≡ a.count = size (page_size a.page) a.prp1 a.len a.count in
+    let each = all (page_size a.page.number) a.prp1 a.len a.count in
+    let sized : length each ≡ a.count = size (page_size a.page.number) a.prp1 a.len a.count in
     let rest = ends_last (omega arith) t.1.1.1 in
     let at_last : a.count - 1 ≡ c.loop-i.i = omega arith in
     let done : suc c.loop-i.i ≡ a.count = omega arith in
-    let s = (stored (page_size a.page) a.prp1 a.len a.count _ _ _ _ _ c.loop-i.left t.1.0 t.1.1.0 (omega arith) (omega (arith, rest))).0 in
+    let s = (stored (page_size a.page.number) a.prp1 a.len a.count _ _ _ _ _ c.loop-i.left t.1.0 t.1.1.0 (omega arith) (omega (arith, rest))).0 in
     let whole = take_all a.count each (omega (arith, sized)) in
     c.put32-2.ensures ∙ rw at_last (rw (done, whole) at s) ∙ numbers_put 4 _ each (rw sized c.requires.count_value.1)

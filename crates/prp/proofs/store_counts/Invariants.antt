@@ -12,9 +12,9 @@ use Rattle.prp.proofs.store_counts.Given as goal
 abbrev pub invariant-loop-i : goal.invariant-loop-i
 invariant-loop-i l =
     (l.i ≤ l.last)
-    × ((l.counts ≡ sets l.initial.counts 0 (numbers 4 (take l.i (byte_counts (page_size l.page) l.prp1 l.len l.count))))
-    × ((drop l.i (byte_counts (page_size l.page) l.prp1 l.len l.count) ≡ split (page_size l.page) l.room l.left (l.count - l.i))
-    × Ends (page_size l.page) l.room l.left (l.last - l.i)))
+    × ((l.counts ≡ sets l.initial.counts 0 (numbers 4 (take l.i (byte_counts (page_size l.page.number) l.prp1 l.len l.count))))
+    × ((drop l.i (byte_counts (page_size l.page.number) l.prp1 l.len l.count) ≡ split (page_size l.page.number) l.room l.left (l.count - l.i))
+    × Ends (page_size l.page.number) l.room l.left (l.last - l.i)))
 
 abbrev pub decreases-loop-i : goal.decreases-loop-i
 decreases-loop-i l =

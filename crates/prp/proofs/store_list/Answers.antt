@@ -69,7 +69,7 @@ loop-addresses-init c =
 
 pub loop-more-init : goal.loop-more-init
 loop-more-init c =
-    (again c.loop-addresses.invariant.0, begin_run _ (page_low c.args.page) c.entries_left.ensures c.smaller-more.ensures)
+    (again c.loop-addresses.invariant.0, begin_run _ (page_low c.args.page.number) c.entries_from.ensures c.min-more.ensures)
 
 -- the entry that is read lies in memory
 pub get64-requires : goal.get64-requires
@@ -89,7 +89,7 @@ get64-entry-requires c = (read c.loop-more.invariant.0 refl).inside
 pub returns-then-left-eq1 : goal.returns-then-left-eq1
 returns-then-left-eq1 c =
     let t = copy c.loop-more.invariant.0 c.loop-addresses.invariant.0 in
-    c.put64-then-left-eq1.ensures ∙ last t c.get64-entry.ensures.0 (page_low c.args.page) c.if-left-eq1.true
+    c.put64-then-left-eq1.ensures ∙ last t c.get64-entry.ensures.0 (page_low c.args.page.number) c.if-left-eq1.true
 
 pub loop-addresses-smaller : goal.loop-addresses-smaller
 loop-addresses-smaller c =
@@ -101,4 +101,4 @@ loop-addresses-preserved c =
     let t = copy c.loop-more.invariant.0 c.loop-addresses.invariant.0 in
     let f = followed t c.get64-entry.ensures.0 c.loop-more.invariant.1 c.loop-more-test.false c.if-left-eq1.false in
     let d = read t c.get64-entry.ensures.0 in
-    (f.0, omega (arith, d.aligned, page_eight c.args.page c.get64-entry.result))
+    (f.0, omega (arith, d.aligned, page_eight c.args.page.number c.get64-entry.result))

@@ -25,9 +25,9 @@ pub record Copy (page : ℕ) (m : List ℕ) (start count : ℕ) (old : List ℕ)
 
 abbrev pub invariant-loop-more : goal.invariant-loop-more
 invariant-loop-more l =
-    Copy (page_size l.page) l.memory l.start l.count l.initial.addresses l.initial.at l.initial.left l.initial.to
+    Copy (page_size l.page.number) l.memory l.start l.count l.initial.addresses l.initial.at l.initial.left l.initial.to
     l.addresses l.at l.left l.to
-    × Run (page_size l.page) l.initial.at l.initial.left l.at l.left l.more
+    × Run (page_size l.page.number) l.initial.at l.initial.left l.at l.left l.more
 
 abbrev pub decreases-loop-more : goal.decreases-loop-more
 decreases-loop-more l =
@@ -35,10 +35,10 @@ decreases-loop-more l =
 
 abbrev pub invariant-loop-addresses : goal.invariant-loop-addresses
 invariant-loop-addresses l =
-    Copy (page_size l.page) l.memory l.start l.count l.initial.addresses l.initial.at l.initial.left l.initial.to
+    Copy (page_size l.page.number) l.memory l.start l.count l.initial.addresses l.initial.at l.initial.left l.initial.to
     l.addresses l.at l.left l.to
     × (l.at % 8 ≡ 0)
 
 abbrev pub decreases-loop-addresses : goal.decreases-loop-addresses
 decreases-loop-addresses l =
-    pointers (page_size l.page) l.at l.left
+    pointers (page_size l.page.number) l.at l.left

@@ -5,16 +5,10 @@ use Rattle.refusals.specs.Meaning.{meaning}
 use Rattle.refusals.specs.Named.{named}
 use Rattle.refusals.proofs.put_refused.Goals as goal
 
--- no goal has this name today
--- slice-aggregate-put-named c = search rules
-
 pub put_named-number-requires : goal.put_named-number-requires
 put_named-number-requires c =
     let n = c.args.n in
     room_first (named (bytes "refused") n) (bytes ", " ++ meaning n) _ _ c.requires
-
--- no goal has this name today
--- slice-aggregate-put c = search rules
 
 pub put-to-requires : goal.put-to-requires
 put-to-requires c =
@@ -25,9 +19,6 @@ pub put_meaning-requires : goal.put_meaning-requires
 put_meaning-requires c =
     let n = c.args.n in
     room_then (meaning n) c.put-to.ensures (room_then (bytes ", " ++ meaning n) c.put_named-number.ensures c.requires)
-
--- no goal has this name today
--- same_length c = search rules
 
 pub returns : goal.returns
 returns c =

@@ -1,7 +1,12 @@
 -- `put_answer` meets its contract: five stores, one after the other. Assumes nothing.
 use Rattle.replay.proofs.Playing.{joined}
 use Rattle.replay.proofs.put_answer.Goals as goal
+use Rattle.replay.proofs.put_answer.Goals.{in-Ok, in-Err}
 
 pub returns : goal.returns
 returns c =
-    cc (joined _ _ _ _ _ c.requires)
+    rw (c.put64.ensures, c.put32.ensures, c.put16.ensures, c.put8-2.ensures, c.put8.ensures)
+    (elim c.match-answer.branch [
+      | in-Ok w ↦ rw (w.in-Ok.is, w.refusal-is) (joined _ _ _ _ _ c.requires)
+      | in-Err w ↦ rw (w.in-Err.is, w.refusal-is, w.number.ensures) (joined _ _ _ _ _ c.requires)
+    ])

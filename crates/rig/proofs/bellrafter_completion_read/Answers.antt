@@ -1,12 +1,13 @@
 -- `bellrafter_completion_read` meets its contract. Assumes nothing.
 use mathlib.Core.Path.{sym, ap, ◌∙◌}
+use Rattle.rules.specs.Refusal.{by_number}
 use Rattle.rig.specs.Answers.{completion_numbers}
 use Rattle.rig.proofs.bellrafter_completion_read.Goals as goal
 
-pub returns-in-Entry : goal.returns-in-Entry
-returns-in-Entry c =
-    ap completion_numbers (sym c.in-Entry.is ∙ c.read.ensures.value)
+pub returns-in-Ok : goal.returns-in-Ok
+returns-in-Ok c =
+    ap completion_numbers (ap by_number (sym c.in-Ok.is) ∙ c.read.ensures.value)
 
-pub returns-in-Refused : goal.returns-in-Refused
-returns-in-Refused c =
-    ap completion_numbers (sym c.in-Refused.is ∙ c.read.ensures.value)
+pub returns-in-Err : goal.returns-in-Err
+returns-in-Err c =
+    rw c.number.ensures (ap completion_numbers (ap by_number (sym c.in-Err.is) ∙ c.read.ensures.value))

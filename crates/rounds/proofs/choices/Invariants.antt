@@ -1,8 +1,5 @@
-use Rattle.std.proofs.Common.{◌≤◌, ◌<◌, ◌-◌}
+use Rattle.std.proofs.Common.{◌<◌}
 use Rattle.rounds.proofs.choices.Given as goal
 
-abbrev pub invariant-loop-i : goal.invariant-loop-i
-invariant-loop-i l = (l.place < 15) × (l.i ≤ 960)
-
-abbrev pub decreases-loop-i : goal.decreases-loop-i
-decreases-loop-i l = 960 - l.i
+abbrev pub invariant-loop : goal.invariant-loop
+invariant-loop l = l.place < 15

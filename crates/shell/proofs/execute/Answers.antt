@@ -6,9 +6,9 @@ use borrow.Author.Rules.{rules}
 use lib.ListN.{length, take, drop, length-drop}
 use lib.Seq.{length-take-le}
 use Rattle.store.specs.Held.{held}
-use borrow.Author.Tests.{not-true, not-false}
 use Rattle.parse.specs.Line.{words_of}
 use Rattle.parse.proofs.Lines.{words_most, word_most}
+use Rattle.parse.proofs.Storing.{is_good, is_bad}
 use Rattle.parse.proofs.Counts.{total, words_total}
 use Rattle.print.proofs.Puts.{put_length}
 use Rattle.language.specs.State.{console}
@@ -66,36 +66,36 @@ pub slice_bounds-read-end : goal.slice_bounds-read-end
 slice_bounds-read-end c =
     sym (length-take-le _ _ (largest-fits (goal.at.slice_bounds-read-end c).After-form_of-form))
 
-pub read-given-requires : goal.read-given-requires
-read-given-requires c =
-    let f = largest-fits (goal.at.read-given-requires c).After-form_of-form in (
+pub read-requires : goal.read-requires
+read-requires c =
+    let f = largest-fits (goal.at.read-requires c).After-form_of-form in (
       c.requires.start_le_end.1,
       omega (
         arith,
         length-take-le c.form_of-form.result.count c.form_of-form.result.largest f,
         c.form_of-form.ensures.few,
-        numbers-long (goal.at.read-given-requires c).Start,
+        numbers-long (goal.at.read-requires c).Start,
       ),
-      omega (arith, c.requires.ready.0.short, numbers-long (goal.at.read-given-requires c).Start),
+      omega (arith, c.requires.ready.0.short, numbers-long (goal.at.read-requires c).Start),
       omega (arith, c.requires.ready.0.short, c.requires.ready.1.first),
     )
 
-pub say_bad-requires-then-not-given : goal.say_bad-requires-then-not-given
-say_bad-requires-then-not-given c =
+pub say_bad-requires-in_default-read : goal.say_bad-requires-in_default-read
+say_bad-requires-in_default-read c =
     c.requires.ready.0.room
 
-pub returns-then-not-given : goal.returns-then-not-given
-returns-then-not-given c =
+pub returns-in_default-read : goal.returns-in_default-read
+returns-in_default-read c =
     let a = c.args in
     let w = take (a.end - a.start) (drop a.start a.line.now) in
     let x = rw (
       c.form_of-form.ensures.largest,
       c.form_of-form.ensures.rest,
-    ) at c.read-given.ensures in
+    ) at (rw c.in_default-read.is at c.read.ensures) in
     leaves_as (bad_arguments (console (held a.state.now) a.memory.now a.lent) a.number w (words_of (drop a.end a.line.now))
-    c.in-Command.command (sym c.command_of.ensures ∙ c.in-Command.is) (sym x.judged ∙ not-true _ c.if-not-given.true))
+    c.in-Some.command (sym c.command_of.ensures ∙ c.in-Some.is) (is_bad _ _ x.answers))
     (bad_leaves a.state.now a.memory.now a.lent c.requires.ready.0.reached c.requires.ready.0.inside w a.number
-    (c.say_bad-then-not-given.ensures w))
+    (c.say_bad-in_default-read.ensures w))
 
 pub slice_bounds-obey-count : goal.slice_bounds-obey-count
 slice_bounds-obey-count c =
@@ -124,10 +124,9 @@ obey-requires c =
     let x = rw (
       c.form_of-form.ensures.largest,
       c.form_of-form.ensures.rest,
-    ) at c.read-given.ensures in
-    let k = c.in-Command.command in
+    ) at (rw c.in-Some-read.is at c.read.ensures) in
+    let k = c.in-Some.command in
     let ws = words_of (drop a.end a.line.now) in
-    let g = not-false _ c.if-not-given.false in
     let r = c.requires.ready.0 in
     record {
       ready = (
@@ -138,7 +137,7 @@ obey-requires c =
           short = omega (arith, word_most a.line.now a.start a.end, r.short, c.requires.start_le_end.1);
           room = r.room;
         },
-        fitting k ws x g (words-fit (goal.at.obey-requires c).Start) (bytes_fit (goal.at.obey-requires c).Start),
+        fitting k ws x (words-fit (goal.at.obey-requires c).Start) (bytes_fit (goal.at.obey-requires c).Start),
       );
       numbers_len = (
         omega (
@@ -148,7 +147,7 @@ obey-requires c =
         ),
         omega (arith, put_length x.bytes, c.requires.ready.1.first),
         c.requires.ready.1.second,
-        bytes_inside k ws x g (words-fit (goal.at.obey-requires c).Start) (bytes_fit (goal.at.obey-requires c).Start),
+        bytes_inside k ws x (words-fit (goal.at.obey-requires c).Start) (bytes_fit (goal.at.obey-requires c).Start),
       );
     }
 
@@ -158,13 +157,12 @@ returns c =
     let x = rw (
       c.form_of-form.ensures.largest,
       c.form_of-form.ensures.rest,
-    ) at c.read-given.ensures in
-    let k = c.in-Command.command in
+    ) at (rw c.in-Some-read.is at c.read.ensures) in
+    let k = c.in-Some.command in
     let ws = words_of (drop a.end a.line.now) in
-    let g = not-false _ c.if-not-given.false in
     let w = take (a.end - a.start) (drop a.start a.line.now) in
     leaves_as (good_arguments (console (held a.state.now) a.memory.now a.lent) a.number w ws k
-    (sym c.command_of.ensures ∙ c.in-Command.is) (sym x.judged ∙ g) _ _
-    (numbers_are k ws x g (words-fit (goal.at.returns c).Start) (bytes_fit (goal.at.returns c).Start))
-    (bytes_are k ws x g (words-fit (goal.at.returns c).Start) (bytes_fit (goal.at.returns c).Start)))
+    (sym c.command_of.ensures ∙ c.in-Some.is) (is_good _ _ x.answers).0 _ _
+    (numbers_are k ws x (words-fit (goal.at.returns c).Start) (bytes_fit (goal.at.returns c).Start))
+    (bytes_are k ws x (words-fit (goal.at.returns c).Start) (bytes_fit (goal.at.returns c).Start)))
     (spoke_leaves w a.number c.obey.ensures)

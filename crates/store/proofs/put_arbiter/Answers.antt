@@ -5,7 +5,11 @@ use Rattle.store.proofs.put_arbiter.Goals as goal
 
 pub returns : goal.returns
 returns c =
-    arbiter_put c.args.s.now c.requires c.args.a (record {
+    let g = c.put_group.ensures in
+    let h = c.put_level.ensures in
+    let m = c.put_level-2.ensures in
+    let l = c.put_level-3.ensures in
+    rw (l.3, m.3, h.3, g.3) (arbiter_put c.args.s.now c.requires c.args.a (record {
       word = search rules;
       holder = search rules;
       high_holder = search rules;
@@ -14,5 +18,4 @@ returns c =
       medium_credit = search rules;
       low_holder = search rules;
       low_credit = search rules;
-    }) _ _ _ _ _
-    c.bit-weighted.ensures c.word_of-group_left.ensures c.word_of-high_left.ensures c.word_of-medium_left.ensures c.word_of-low_left.ensures
+    }) _ _ _ _ (g.1, g.2) (h.1, h.2) (m.1, m.2) (l.1, l.2))

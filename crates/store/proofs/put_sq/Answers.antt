@@ -5,5 +5,5 @@ use Rattle.store.proofs.put_sq.Goals as goal
 
 pub returns : goal.returns
 returns c =
-    sq_put c.args.s.now c.requires.1 c.args.i c.requires.0 c.args.q _ _ c.bit-exists.ensures c.bit-marked.ensures
-    (search rules) (search rules) (search rules) (search rules) (search rules) (search rules)
+    rw c.put_ring.ensures (sq_put c.args.s.now c.requires.1 c.args.i c.requires.0 c.args.q
+    (search rules) (search rules) (search rules) (search rules) (search rules) (search rules))

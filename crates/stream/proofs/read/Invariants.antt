@@ -1,8 +1,5 @@
 use Rattle.std.specs.Io.KnownBytes.{Keeps}
 use Rattle.stream.proofs.read.Given as goal
 
-abbrev pub invariant-loop-tries : goal.invariant-loop-tries
-invariant-loop-tries g l = Keeps (g.R.Read.remaining l.initial.input) (g.R.Read.remaining l.input)
-
-abbrev pub decreases-loop-tries : goal.decreases-loop-tries
-decreases-loop-tries g l = l.tries
+abbrev pub invariant-loop : goal.invariant-loop
+invariant-loop g l = Keeps (g.R.Read.remaining l.initial.input) (g.R.Read.remaining l.input)

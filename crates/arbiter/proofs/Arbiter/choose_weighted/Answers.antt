@@ -7,14 +7,13 @@ pub returns-then-is_candidate : goal.returns-then-is_candidate
 returns-then-is_candidate c =
     weight_admin _ _ (sym c.is_candidate.ensures ∙ c.if-is_candidate.true)
 
-pub returns-in-Queue : goal.returns-in-Queue
-returns-in-Queue c =
-    c.in-Queue.is
-    ∙ weight_urgent _ _ (sym c.is_candidate.ensures ∙ c.if-is_candidate.false)
-    (sym c.in-Queue.is ∙ c.choose_group-urgent.ensures)
+pub returns-in-Some : goal.returns-in-Some
+returns-in-Some c =
+    weight_urgent _ _ (sym c.is_candidate.ensures ∙ c.if-is_candidate.false)
+    (sym c.in-Some.is ∙ c.choose_group.ensures)
 
 pub returns : goal.returns
 returns c =
     c.choose_level.ensures
     ∙ weight_level _ _ (sym c.is_candidate.ensures ∙ c.if-is_candidate.false) c.refilled_if_due.ensures
-    (sym c.in_default.is ∙ c.choose_group-urgent.ensures)
+    (sym c.in_default.is ∙ c.choose_group.ensures)

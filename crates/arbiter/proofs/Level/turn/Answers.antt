@@ -24,11 +24,11 @@ is_ready :
 is_ready c =
     sym c.is_ready.ensures ∙ not_no _ c.if-not-is_ready.false-raw
 
-pub returns-in_default : goal.returns-in_default
-returns-in_default c =
+pub returns-in_err-id : goal.returns-in_err-id
+returns-in_err-id c =
     named (level_answered _ c.ranges.mask.fits _ _
-    (ap (charged _) (sym c.in_default.is ∙ c.turn.ensures.value)
-    ∙ level_turn_lem _ _ _ c.level_full.ensures.value (is_ready (goal.at.returns-in_default c).Else-not-is_ready)))
+    (c.from_residual.ensures ∙ ap (charged _) c.in_err-id.ensures.value
+    ∙ level_turn_lem _ _ _ c.level_full.ensures.value (is_ready (goal.at.returns-in_err-id c).Else-not-is_ready)))
 
 pub overflow_sub-result : goal.overflow_sub-result
 overflow_sub-result c =
@@ -37,5 +37,5 @@ overflow_sub-result c =
 pub returns : goal.returns
 returns c =
     named (level_answered _ c.ranges.mask.fits _ _
-    (ap (charged _) (sym c.in-Served.is ∙ c.turn.ensures.value)
+    (ap (charged _) c.in_ok-id.ensures.value
     ∙ level_turn_lem _ _ _ c.level_full.ensures.value (is_ready (goal.at.returns c).Else-not-is_ready)))

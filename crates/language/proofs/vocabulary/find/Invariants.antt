@@ -1,14 +1,9 @@
 -- `find` meets its contract: the command is among the rows that are left. Assumes nothing.
 use mathlib.Core.Path.{◌≡◌}
-use Prim.Native.Nat.{◌≤◌, ◌-◌}
 use lib.ListN.{drop}
 use Rattle.language.specs.Vocabulary.{vocabulary, among, named}
 use Rattle.language.proofs.vocabulary.find.Given as goal
 
 abbrev pub invariant-loop-i : goal.invariant-loop-i
 invariant-loop-i l =
-    (l.i ≤ 27) × (among l.word (drop l.i vocabulary) ≡ named l.word)
-
-abbrev pub decreases-loop-i : goal.decreases-loop-i
-decreases-loop-i l =
-    27 - l.i
+    among l.word (drop l.i vocabulary) ≡ named l.word

@@ -1,28 +1,27 @@
 -- `byte_of` meets its contract. Assumes nothing.
-use mathlib.Core.Path.{sym, ◌∙◌}
-use Prim.Native.Nat.{◌≤◌, ◌<◌}
+use mathlib.Core.Path.{sym, ap, ◌∙◌}
 use native.Mathlib.Omega.{arith}
-use Rattle.parse.specs.Numeral.{digit}
+use Rattle.std.specs.Prelude.{Some}
+use Rattle.parse.proofs.Numerals.{digit_good, digit_bad}
 use Rattle.parse.proofs.Reading.{byte_high, byte_low, byte_both}
 use Rattle.parse.proofs.bytes.byte_of.Goals as goal
-use Rattle.parse.proofs.bytes.byte_of.Goals.{Start}
 
-pub returns-then-h-gt15 : goal.returns-then-h-gt15
-returns-then-h-gt15 c =
-    let h : 15 < digit c.args.high = omega arith in
-    sym (byte_high c.args.high c.args.low h)
+pub returns-in_err-h : goal.returns-in_err-h
+returns-in_err-h c =
+    let h = digit_bad 16 c.args.high (omega arith) c.in_err-h.ensures.value in
+    c.from_residual.ensures ∙ sym (byte_high c.args.high c.args.low h)
 
-pub returns-then-l-gt15 : goal.returns-then-l-gt15
-returns-then-l-gt15 c =
-    let h : digit c.args.high ≤ 15 = omega arith in
-    let k : 15 < digit c.args.low = omega arith in
-    sym (byte_low c.args.high c.args.low h k)
+pub returns-in_err-l : goal.returns-in_err-l
+returns-in_err-l c =
+    let v = c.in_ok-h.ensures.value in
+    let h = digit_good 16 c.args.high (omega arith) v.0 in
+    let l = digit_bad 16 c.args.low (omega arith) c.in_err-l.ensures.value in
+    c.from_residual-in_err-l.ensures ∙ sym (byte_low c.args.high c.args.low (omega (arith, h, v.0)) l)
 
 pub returns : goal.returns
 returns c =
-    let s = c.args in
-    let h : digit s.high ≤ 15 = omega arith in
-    let k : digit s.low ≤ 15 = omega arith in
-    let high = c.digit_of-h.ensures.0 in
-    let low = c.digit_of-l.ensures.0 in
-    sym (byte_both s.high s.low h k ∙ rw (← high, ← low))
+    let v = c.in_ok-h.ensures.value in
+    let w = c.in_ok-l.ensures.value in
+    let h = digit_good 16 c.args.high (omega arith) v.0 in
+    let l = digit_good 16 c.args.low (omega arith) w.0 in
+    ap Some (omega (arith, h, l, v.1, w.1)) ∙ sym (byte_both c.args.high c.args.low (omega (arith, h, v.0)) (omega (arith, l, w.0)))

@@ -1,89 +1,52 @@
 -- `digits` meets its contract. Assumes nothing.
-use mathlib.Core.Path.{refl, sym, ap, ◌∙◌}
-use Prim.Native.Nat.{◌*◌, ◌≤◌, ◌<◌, ◌+◌, ◌^◌}
+use mathlib.Core.Path.{◌≡◌, sym, ap, ◌∙◌}
+use Prim.Native.Nat.{◌*◌, ◌≤◌, ◌+◌, ◌^◌}
 use native.Mathlib.Omega.{arith}
-use native.Mathlib.Nat.{le-div_iff_mul-le, lt_of_le_of_lt}
-use lib.Dec.{lit<}
-use lib.ListN.{get_or, length, drop}
+use lib.ListN.{get_or, drop}
 use Rattle.parse.specs.Numeral.{digit, number_on}
-use Rattle.parse.proofs.Numerals.{number_end, number_bad_digit, number_too_large, number_more, past_most}
+use Rattle.parse.proofs.Numerals.{number_end, number_bad_digit, number_too_large, number_more, digit_good, digit_bad}
 use Rattle.parse.proofs.number.digits.Goals as goal
-use Rattle.parse.proofs.number.digits.Goals.{Start}
 
-pub nonzero_div-most : goal.nonzero_div-most
-nonzero_div-most c =
-    omega arith
+pub returns-in_err-digit : goal.returns-in_err-digit
+returns-in_err-digit c =
+    let a = c.args in
+    let l = c.loop-b in
+    let d = digit_bad a.base (get_or a.word.now l.b-index 0) c.requires.1 c.in_err-digit.ensures.value in
+    c.from_residual.ensures ∙ sym (number_bad_digit a.base l.value a.word.now l.b-index c.loop-b-test.true d) ∙ l.invariant.1
 
-pub loop-i-init : goal.loop-i-init
-loop-i-init c =
-    (omega arith, omega arith, refl)
+pub returns-in_err-shifted : goal.returns-in_err-shifted
+returns-in_err-shifted c =
+    let a = c.args in
+    let l = c.loop-b in
+    let k : 2 ^ 64 ≤ l.value * a.base + digit (get_or a.word.now l.b-index 0) = omega (arith, c.in_err-shifted.ensures) in
+    c.from_residual-in_err-shifted.ensures
+    ∙ sym (number_too_large a.base l.value a.word.now l.b-index c.loop-b-test.true (omega arith) k) ∙ l.invariant.1
 
-pub bounds-word-i : goal.bounds-word-i
-bounds-word-i c =
-    omega arith
+pub returns-in_err-value : goal.returns-in_err-value
+returns-in_err-value c =
+    let a = c.args in
+    let l = c.loop-b in
+    let v = c.in_ok-digit.ensures.value in
+    let d = digit_good a.base (get_or a.word.now l.b-index 0) c.requires.1 v.0 in
+    let k : 2 ^ 64 ≤ l.value * a.base + digit (get_or a.word.now l.b-index 0) =
+    omega (arith, d, v.1, c.in_ok-shifted.ensures, c.in_err-value.ensures) in
+    c.from_residual-in_err-value.ensures
+    ∙ sym (number_too_large a.base l.value a.word.now l.b-index c.loop-b-test.true (omega arith) k) ∙ l.invariant.1
 
-pub returns-then-base-d : goal.returns-then-base-d
-returns-then-base-d c =
-    let l = c.loop-i in
-    let w = c.args.word.now in
-    let h : l.i < length w = omega arith in
-    let k : c.args.base ≤ digit (get_or w l.i 0) = omega arith in
-    sym (number_bad_digit c.args.base l.value w l.i h k) ∙ l.invariant.2
-
-pub returns-then-most-value : goal.returns-then-most-value
-returns-then-most-value c =
-    let l = c.loop-i in
-    let w = c.args.word.now in
-    let h : l.i < length w = omega arith in
-    let o : 1 ≤ c.args.base = omega arith in
-    let m = past_most c.args.base l.value o c.if-most-value.true in
-    let k : 2 ^ 64 ≤ l.value * c.args.base + digit (get_or w l.i 0) = omega (arith, m) in
-    sym (number_too_large c.args.base l.value w l.i h o k) ∙ l.invariant.2
-
-pub overflow_mul-shifted : goal.overflow_mul-shifted
-overflow_mul-shifted c =
-    record { fits = lt_of_le_of_lt ((le-div_iff_mul-le {y = 18446744073709551615} (omega arith)).0 c.if-most-value.false) (lit< tt) }
-
-pub overflow_sub-d : goal.overflow_sub-d
-overflow_sub-d c =
-    omega arith
-
-pub returns-then-d-shifted : goal.returns-then-d-shifted
-returns-then-d-shifted c =
-    let l = c.loop-i in
-    let w = c.args.word.now in
-    let h : l.i < length w = omega arith in
-    let o : 1 ≤ c.args.base = omega arith in
-    let k : 2 ^ 64 ≤ l.value * c.args.base + digit (get_or w l.i 0) = omega arith in
-    sym (number_too_large c.args.base l.value w l.i h o k) ∙ l.invariant.2
-
-pub overflow_add-value : goal.overflow_add-value
-overflow_add-value c =
-    omega arith
-
-pub overflow_add-i : goal.overflow_add-i
-overflow_add-i c =
-    omega arith
-
-pub loop-i-smaller : goal.loop-i-smaller
-loop-i-smaller c =
-    omega arith
-
-pub loop-i-preserved : goal.loop-i-preserved
-loop-i-preserved c =
-    let l = c.loop-i in
-    let w = c.args.word.now in
-    let h : l.i < length w = omega arith in
-    let d = c.digit_of-d in
-    let k : digit (get_or w l.i 0) < c.args.base = omega arith in (
-      omega arith,
-      omega arith,
-      ap (λ x. number_on c.args.base (l.value * c.args.base + x) (drop (l.i + 1) w)) d.ensures.0
-          ∙ sym (number_more c.args.base l.value w l.i h k) ∙ l.invariant.2,
+pub loop-b-preserved : goal.loop-b-preserved
+loop-b-preserved c =
+    let a = c.args in
+    let l = c.loop-b in
+    let v = c.in_ok-digit.ensures.value in
+    let d = digit_good a.base (get_or a.word.now l.b-index 0) c.requires.1 v.0 in
+    let e : c.in_ok-value.value ≡ l.value * a.base + digit (get_or a.word.now l.b-index 0) =
+    omega (arith, d, v.1, c.in_ok-shifted.ensures, c.in_ok-value.ensures) in (
+      omega (arith, c.in_ok-value.ensures),
+      ap (λ x. number_on a.base x (drop (l.b-index + 1) a.word.now)) e
+          ∙ sym (number_more a.base l.value a.word.now l.b-index c.loop-b-test.true (omega (arith, d, v.0))) ∙ l.invariant.1,
     )
 
 pub returns : goal.returns
 returns c =
-    let l = c.loop-i in
-    let h : length c.args.word.now ≤ l.i = omega arith in
-    sym (number_end c.args.base l.value c.args.word.now l.i h l.invariant.1) ∙ l.invariant.2
+    let l = c.loop-b in
+    sym (number_end c.args.base l.value c.args.word.now l.b-index c.loop-b-test.false l.invariant.0) ∙ l.invariant.1

@@ -3,17 +3,14 @@ use Prim.Native.Nat.{◌≤◌}
 use mathlib.Core.Path.{sym, ap}
 use native.Mathlib.Omega.{arith}
 use lib.ListN.{length, get_or-eq_default}
+use Rattle.std.proofs.lemmas.Bool.{lt-leb}
 use Rattle.controller.specs.State.{no_cq}
 use Rattle.store.specs.Held.{held}
 use Rattle.store.proofs.Stores.{cqs_16}
 use Rattle.queues.proofs.create.cq_exists.Goals as goal
 
-pub returns-then-id-gt-LAST_QUEUE : goal.returns-then-id-gt-LAST_QUEUE
-returns-then-id-gt-LAST_QUEUE c =
+pub returns-else-id-le-LAST_QUEUE : goal.returns-else-id-le-LAST_QUEUE
+returns-else-id-le-LAST_QUEUE c =
     let a = c.args in
     let h : length (held a.state.now).cqs ≤ a.id = omega (arith, cqs_16 a.state.now) in
-    sym (ap (λ q. q.ring.exists) (get_or-eq_default (held a.state.now).cqs no_cq h))
-
-pub returns : goal.returns
-returns c =
-    ap (λ q. q.ring.exists) c.cq_at-q.ensures
+    rw (lt-leb a.id 15 c.if-id-le-LAST_QUEUE.false) (sym (ap (λ q. q.ring.exists) (get_or-eq_default (held a.state.now).cqs no_cq h)))

@@ -3,6 +3,7 @@ use Prim.Native.Nat.{ℕ}
 use mathlib.Core.Bool.{Bool}
 use mathlib.Core.Path.{◌≡◌, sym, ◌∙◌}
 use native.Mathlib.Omega.{arith}
+use Rattle.std.proofs.lemmas.Result.{err_from_is_err_and}
 use Rattle.rules.specs.Rules.{first_match}
 use Rattle.controller.specs.Controller.{Controller}
 use Rattle.controller.specs.State.{cq_at}
@@ -21,20 +22,22 @@ refusal :
 unfolding delete_cq_refusal
 refusal c id r exists in_use e u x = rw (← e, ← u) x
 
-pub returns-then-refusal-ne0 : goal.returns-then-refusal-ne0
+pub returns-in_err-may_delete : goal.returns-in_err-may_delete
 unfolding delete_cq
-returns-then-refusal-ne0 c = (
-  c.requires.sound,
-  λ m. unchanged _ _ m (refusal (held c.args.state.now) c.args.id _ _ _ c.cq_exists.ensures c.is_named.ensures
-      c.delete_refusal-refusal.ensures) c.if-refusal-ne0.true,
-)
+returns-in_err-may_delete c =
+    let p = err_from_is_err_and c.from_residual.result c.from_residual.ensures.1 in
+    rw (p.1, p.2) (
+      c.requires.sound,
+      λ m. unchanged _ _ m _ (refusal (held c.args.state.now) c.args.id _ _ _ c.cq_exists.ensures c.is_named.ensures
+          c.in_err-may_delete.ensures),
+    )
 
 pub put_cq-requires : goal.put_cq-requires
 put_cq-requires c = (
   omega (
     arith,
     (deletable_cq _ _ (sym (refusal (held c.args.state.now) c.args.id _ _ _ c.cq_exists.ensures c.is_named.ensures
-        c.delete_refusal-refusal.ensures) ∙ c.if-refusal-ne0.false)).id_low,
+        c.in_ok-may_delete.ensures))).id_low,
   ),
   c.requires.sound,
 )
@@ -45,5 +48,5 @@ returns c =
     let p = c.put_cq.ensures in (
       p.sound,
       λ m. changed _ _ m (refusal (held c.args.state.now) c.args.id _ _ _ c.cq_exists.ensures c.is_named.ensures
-          c.delete_refusal-refusal.ensures) c.if-refusal-ne0.false (p.is ∙ rw c.no_ring-ring.ensures),
+          c.in_ok-may_delete.ensures) (p.is ∙ rw c.no_ring-ring.ensures),
     )

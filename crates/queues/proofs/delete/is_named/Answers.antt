@@ -1,24 +1,17 @@
--- `is_named` meets its contract. The loop's invariant: no queue passed names the other; the measure is how many are left. Assumes nothing.
-use mathlib.Core.Path.{sym, ◌∙◌}
-use native.Mathlib.Omega.{arith}
-use Rattle.controller.specs.Delete.{named}
-use Rattle.queues.proofs.Scans.{begins, goes_on, found, ends}
+-- `is_named` meets its contract. Assumes nothing.
+use mathlib.Core.Path.{refl, ◌∙◌}
+use borrow.Author.Rules.{rules}
+use Rattle.std.proofs.Common.{tests}
+use Rattle.std.proofs.lemmas.Iterator.{YieldsList-from_range}
+use Rattle.std.proofs.lemmas.Iterator.Search.{any_from_yields_List}
+use Rattle.controller.specs.Delete.{naming, named}
+use Rattle.store.specs.Held.{held}
+use Rattle.queues.proofs.Scans.{any_below}
 use Rattle.queues.proofs.delete.is_named.Goals as goal
-
-pub returns-then-is_naming : goal.returns-then-is_naming
-unfolding named
-returns-then-is_naming c =
-    found 16 _ _ (omega arith) (sym c.is_naming.ensures ∙ c.if-is_naming.true)
-
-pub loop-i-preserved : goal.loop-i-preserved
-loop-i-preserved c =
-    goes_on 16 _ c.loop-i.invariant (omega arith) (sym c.is_naming.ensures ∙ c.if-is_naming.false)
 
 pub returns : goal.returns
 unfolding named
 returns c =
-    ends 16 _ c.loop-i.invariant (omega arith)
-
-pub loop-i-init : goal.loop-i-init
-loop-i-init c =
-    begins 16 _
+    any_from_yields_List (naming (held c.args.state.now) c.args.id) _ _ _ c.any.ensures.ran (YieldsList-from_range 0 16 16 refl refl)
+    (λ x b q k. search (rules, tests))
+    ∙ any_below (naming (held c.args.state.now) c.args.id) 16

@@ -10,9 +10,6 @@ pub put_next-requires : goal.put_next-requires
 put_next-requires c =
     room_then (next c.args.n) c.put-to.ensures c.requires
 
--- no goal has this name today
--- same_length c = search rules
-
 pub returns : goal.returns
 returns c =
     put_then c.put-to.ensures c.put_next.ensures

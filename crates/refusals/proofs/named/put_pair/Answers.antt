@@ -12,9 +12,6 @@ put_named-requires c =
     let a = c.args in
     room_then (named a.b.now a.y) c.put_named-to.ensures c.requires
 
--- no goal has this name today
--- same_length c = search rules
-
 pub returns : goal.returns
 returns c =
     put_then c.put_named-to.ensures c.put_named.ensures

@@ -1,14 +1,15 @@
 -- `bellrafter_look_arbiter` meets its contract. Assumes nothing.
+use Rattle.rig.proofs.Exports.{bit_is}
 use Rattle.rig.proofs.state.bellrafter_look_arbiter.Goals as goal
 
 pub returns : goal.returns
 returns c =
-    let a = c.arbiter_of-a.ensures in
     rw (
-      c.bit.ensures,
-      c.number_of-low_remainder.ensures,
-      c.number_of-medium_remainder.ensures,
-      c.number_of-high_remainder.ensures,
-      c.number_of-remainder.ensures,
-      a,
+      c.from.ensures,
+      bit_is,
+      c.number_of.ensures,
+      c.number_of-2.ensures,
+      c.number_of-3.ensures,
+      c.number_of-4.ensures,
+      c.arbiter_of-a.ensures,
     )

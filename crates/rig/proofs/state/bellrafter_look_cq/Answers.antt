@@ -3,7 +3,6 @@ use mathlib.Core.Path.{◌∙◌}
 use Rattle.store.specs.Held.{held}
 use Rattle.rig.proofs.Exports.{cq_1, cq_9, cq_0}
 use Rattle.rig.proofs.state.bellrafter_look_cq.Goals as goal
-use Rattle.rig.proofs.state.bellrafter_look_cq.Goals.{After-cq_at-q, Else-id-gt-LAST_QUEUE, Else-not-r}
 
 pub returns-then-id-gt-LAST_QUEUE : goal.returns-then-id-gt-LAST_QUEUE
 returns-then-id-gt-LAST_QUEUE c =

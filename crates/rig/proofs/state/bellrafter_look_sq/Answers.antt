@@ -1,9 +1,8 @@
 -- `bellrafter_look_sq` meets its contract. Assumes nothing.
 use mathlib.Core.Path.{◌∙◌}
 use Rattle.store.specs.Held.{held}
-use Rattle.rig.proofs.Exports.{sq_1, sq_9, sq_0}
+use Rattle.rig.proofs.Exports.{bit_is, sq_1, sq_9, sq_0}
 use Rattle.rig.proofs.state.bellrafter_look_sq.Goals as goal
-use Rattle.rig.proofs.state.bellrafter_look_sq.Goals.{After-bit, After-sq_at-q, Else-id-gt-LAST_QUEUE, Else-not-r}
 
 pub returns-then-id-gt-LAST_QUEUE : goal.returns-then-id-gt-LAST_QUEUE
 returns-then-id-gt-LAST_QUEUE c =
@@ -15,4 +14,4 @@ returns-then-not-r c =
 
 pub returns : goal.returns
 returns c =
-    sq_0 (held c.args.state.now) _ c.if-id-gt-LAST_QUEUE.false c.sq_at-q.ensures c.if-not-r.false c.bit.ensures
+    sq_0 (held c.args.state.now) _ c.if-id-gt-LAST_QUEUE.false c.sq_at-q.ensures c.if-not-r.false (c.from.ensures ∙ bit_is _)

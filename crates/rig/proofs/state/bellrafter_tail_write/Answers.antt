@@ -4,4 +4,4 @@ use Rattle.rig.proofs.state.bellrafter_tail_write.Goals as goal
 
 pub returns : goal.returns
 returns c =
-    λ m. let e = c.tail_write.ensures in numbered e.0 (e.1 m)
+    λ m. let e = c.tail_write.ensures in numbered c.code.ensures e.0 (e.1 m)

@@ -5,9 +5,5 @@ use Rattle.ring.proofs.reader.run.Given as goal
 
 abbrev pub invariant-loop-n : goal.invariant-loop-n
 invariant-loop-n l =
-    (l.n ≤ l.most)
-    × ((size : ℕ) → l.slot + l.most ≤ size → read_count l.most l.ring size l.slot l.phase ≡ l.n + read_count (l.most - l.n) l.ring size (l.slot + l.n) l.phase)
-
-abbrev pub decreases-loop-n : goal.decreases-loop-n
-decreases-loop-n l =
-    l.most - l.n
+    (size : ℕ) → l.slot + l.most ≤ size
+    → read_count l.most l.ring size l.slot l.phase ≡ l.n + read_count (l.most - l.n) l.ring size (l.slot + l.n) l.phase

@@ -1,5 +1,4 @@
 -- `masks_of` meets its contract. The invariant: `masks` are those of the queues below `i`. Assumes nothing.
-use Prim.Native.Nat.{◌-◌, ◌≤◌}
 use mathlib.Core.Path.{◌≡◌}
 use Rattle.store.specs.Held.{held}
 use Rattle.starter.specs.Masks.{stacked}
@@ -7,8 +6,4 @@ use Rattle.starter.proofs.candidates.masks_of.Given as goal
 
 abbrev pub invariant-loop-i : goal.invariant-loop-i
 invariant-loop-i l =
-    (l.i ≤ 16) × (l.masks ≡ stacked (held l.state) l.i)
-
-abbrev pub decreases-loop-i : goal.decreases-loop-i
-decreases-loop-i l =
-    16 - l.i
+    l.masks ≡ stacked (held l.state) l.i

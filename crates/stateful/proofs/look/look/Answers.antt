@@ -22,6 +22,7 @@ returns-in-CheckTail c =
     rw (
       c.in-CheckTail.is,
       c.told.ensures,
+      c.code.ensures,
       ← c.check_tail.ensures,
     ) (record { is = refl; few = omega arith })
 
@@ -31,6 +32,7 @@ returns-in-CheckHead c =
     rw (
       c.in-CheckHead.is,
       c.told-in-CheckHead.ensures,
+      c.code-in-CheckHead.ensures,
       ← c.check_head.ensures,
     ) (record { is = refl; few = omega arith })
 

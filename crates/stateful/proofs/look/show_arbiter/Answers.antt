@@ -1,6 +1,7 @@
 -- `show_arbiter` meets its contract. Assumes nothing.
 use native.Mathlib.Omega.{arith}
 use Rattle.language.specs.Commands.{looked}
+use Rattle.stateful.proofs.Made.{bit_is}
 use Rattle.stateful.proofs.look.show_arbiter.Goals as goal
 
 pub returns : goal.returns
@@ -8,7 +9,8 @@ unfolding looked
 returns c =
     record {
       is = rw (
-        c.bit.ensures,
+        c.from.ensures,
+        bit_is,
         c.remainder.ensures,
         c.remainder-2.ensures,
         c.remainder-3.ensures,

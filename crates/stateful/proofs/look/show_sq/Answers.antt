@@ -1,6 +1,7 @@
 -- `show_sq` meets its contract. Assumes nothing.
 use native.Mathlib.Omega.{arith}
 use Rattle.language.specs.Commands.{looked}
+use Rattle.stateful.proofs.Made.{bit_is}
 use Rattle.stateful.proofs.look.show_sq.Goals as goal
 
 pub returns : goal.returns
@@ -8,8 +9,10 @@ unfolding looked
 returns c =
     record {
       is = rw (
-        c.bit.ensures,
-        c.bit-2.ensures,
+        c.from.ensures,
+        bit_is,
+        c.from-2.ensures,
+        bit_is,
         c.sq_at-q.ensures,
       );
       few = omega arith;

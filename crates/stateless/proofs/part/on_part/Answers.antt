@@ -1,6 +1,5 @@
 -- `on_part` meets its contract. Assumes nothing.
 use native.Mathlib.Omega.{arith}
-use lib.ListN.{length-replicate}
 use Rattle.language.specs.Commands.{on_part}
 use Rattle.stateless.proofs.part.on_part.Goals as goal
 
@@ -23,8 +22,8 @@ returns-in-Fill c = (
   rw (
     c.in-Fill.is,
     c.told.ensures,
-    c.fill.ensures,
-    length-replicate,
+    c.fill.ensures.len,
+    c.fill.ensures.after (λ y e. e),
   ),
   rw c.told.ensures (omega arith),
 )
@@ -36,6 +35,7 @@ returns-in-WriteSqe c =
       rw (
         c.in-WriteSqe.is,
         c.changed.ensures,
+        c.code.ensures,
         ← c.submission_of.ensures,
         ← e.value,
         ← e.buf_after,

@@ -3,6 +3,7 @@ use mathlib.Core.Path.{sym}
 use Prim.Native.Nat.{◌≤◌}
 use native.Mathlib.Omega.{arith}
 use lib.Seq.{length-take-le}
+use Rattle.rules.specs.Refusal.{by_number}
 use Rattle.prp.specs.Pages.{most_pages}
 use Rattle.prp.specs.Answer.{pages_of}
 use Rattle.print.proofs.Puts.{put_length}
@@ -11,7 +12,7 @@ use Rattle.stateless.proofs.walk.walk.Goals as goal
 use Rattle.stateless.proofs.walk.walk.Goals.{After-walk-walked}
 
 few :
-    (c : After-walk-walked) → pages_of c.walk-walked.result ≤ most_pages
+    (c : After-walk-walked) → pages_of (by_number c.walk-walked.result) ≤ most_pages
 few c =
     let a = c.args in
     let p = c.requires in

@@ -7,15 +7,10 @@ use Rattle.transcript.specs.Piece.{tallied, told}
 use Rattle.transcript.proofs.SoFar.{none_yet, one_more, room_more, all_put}
 use Rattle.transcript.proofs.Pieces.{left, left_all, told_none, tallied_none, told_next, tallied_next}
 use Rattle.transcript.proofs.piece.put_piece.Goals as goal
-use Rattle.transcript.proofs.piece.put_piece.Goals.{Start}
 
 pub loop-at-init : goal.loop-at-init
 loop-at-init c =
     (refl, none_yet _ _ _, refl)
-
-pub overflow_add-next : goal.overflow_add-next
-overflow_add-next c =
-    omega arith
 
 pub overflow_add-at : goal.overflow_add-at
 overflow_add-at c =
@@ -92,4 +87,26 @@ returns c =
     record {
       put = put_as (all_put l.invariant.1 (told_none s.trace.now s.answers.now l.at l.after h)) (ap (told s.tally) all);
       tally_value = sym (tallied_none s.trace.now s.answers.now l.at l.after h) ∙ l.invariant.2 ∙ ap (tallied s.tally) all;
+    }
+
+-- the record was the last
+pub returns-2 : goal.returns-2
+returns-2 c =
+    let s = c.args in
+    let l = c.loop-at in
+    let trace = s.trace.now in
+    let answers = s.answers.now in
+    let h : l.at < length trace = omega arith in
+    let last : length trace ≤ l.at + 16 = omega arith in
+    let u = c.with-after in
+    let read = c.get8.ensures.0 in
+    let end = c.next_at-end.ensures in
+    let all = left_all trace answers in
+    let put = one_more l.invariant.1 (told_next trace answers l.at h read end l.after u.ensures) c.put_record-to.ensures in
+    record {
+      put = put_as (all_put put (told_none trace answers (l.at + 16) u.result last)) (ap (told s.tally) all);
+      tally_value = sym (tallied_none trace answers (l.at + 16) u.result last)
+          ∙ sym (tallied_next trace answers l.at h read end l.after u.ensures)
+          ∙ l.invariant.2
+          ∙ ap (tallied s.tally) all;
     }

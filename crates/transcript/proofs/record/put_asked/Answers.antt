@@ -1,5 +1,4 @@
 -- `put_asked` meets its contract. Assumes nothing.
-use Rattle.std.proofs.Common.{sym, ◌∙◌}
 use Rattle.print.proofs.Puts.{put_none, put_as}
 use Rattle.transcript.proofs.Wording.{room_as, asked_short, read_as, asked_as, asked_wrong}
 use Rattle.transcript.proofs.Wrongs.{wrong}
@@ -15,50 +14,56 @@ returns-then-bytes-lt-RECORD_BYTES c =
 
 pub put_pair-requires : goal.put_pair-requires
 put_pair-requires c =
-    room_as (asked_as _ c.if-bytes-lt-RECORD_BYTES.false c.requires.0 c.read.ensures.value c.in-TailWrite.is) _ _ c.requires.1
+    let i = c.in-Ok-TailWrite in
+    room_as (asked_as _ c.if-bytes-lt-RECORD_BYTES.false c.requires.0 i.ensures.value i.field-0-is) _ _ c.requires.1
 
-pub put_pair-requires-in-HeadWrite : goal.put_pair-requires-in-HeadWrite
-put_pair-requires-in-HeadWrite c =
-    room_as (asked_as _ c.if-bytes-lt-RECORD_BYTES.false c.requires.0 c.read.ensures.value c.in-HeadWrite.is) _ _ c.requires.1
+pub put_pair-requires-in-Ok-HeadWrite : goal.put_pair-requires-in-Ok-HeadWrite
+put_pair-requires-in-Ok-HeadWrite c =
+    let i = c.in-Ok-HeadWrite in
+    room_as (asked_as _ c.if-bytes-lt-RECORD_BYTES.false c.requires.0 i.ensures.value i.field-0-is) _ _ c.requires.1
 
 pub put-requires : goal.put-requires
 put-requires c =
-    room_as (asked_as _ c.if-bytes-lt-RECORD_BYTES.false c.requires.0 c.read.ensures.value c.in-Start.is) _ _ c.requires.1
+    let i = c.in-Ok-Start in
+    room_as (asked_as _ c.if-bytes-lt-RECORD_BYTES.false c.requires.0 i.ensures.value i.field-0-is) _ _ c.requires.1
 
-pub put_pair-requires-in-Finish : goal.put_pair-requires-in-Finish
-put_pair-requires-in-Finish c =
-    room_as (asked_as _ c.if-bytes-lt-RECORD_BYTES.false c.requires.0 c.read.ensures.value c.in-Finish.is) _ _ c.requires.1
+pub put_pair-requires-in-Ok-Finish : goal.put_pair-requires-in-Ok-Finish
+put_pair-requires-in-Ok-Finish c =
+    let i = c.in-Ok-Finish in
+    room_as (asked_as _ c.if-bytes-lt-RECORD_BYTES.false c.requires.0 i.ensures.value i.field-0-is) _ _ c.requires.1
 
 pub put_wrong-requires : goal.put_wrong-requires
 put_wrong-requires c =
-    let x = c.in-Refused.is in
     let w = c.if-bytes-lt-RECORD_BYTES.false in
     let l = c.requires.0 in
-    let e = c.read.ensures.value in (
-      wrong _ w _ (sym x ∙ read_as _ w l e),
-      room_as (asked_wrong _ w l e x) _ _ c.requires.1,
-    )
+    let e = c.in-Err.ensures.value in
+    (wrong _ w _ (read_as _ w l e), room_as (asked_wrong _ w l e) _ _ c.requires.1)
 
-pub returns-in-TailWrite : goal.returns-in-TailWrite
-returns-in-TailWrite c =
-    put_as c.put_pair.ensures (asked_as _ c.if-bytes-lt-RECORD_BYTES.false c.requires.0 c.read.ensures.value c.in-TailWrite.is)
+pub returns-in-Ok-TailWrite : goal.returns-in-Ok-TailWrite
+returns-in-Ok-TailWrite c =
+    let i = c.in-Ok-TailWrite in
+    put_as c.put_pair.ensures (asked_as _ c.if-bytes-lt-RECORD_BYTES.false c.requires.0 i.ensures.value i.field-0-is)
 
-pub returns-in-HeadWrite : goal.returns-in-HeadWrite
-returns-in-HeadWrite c =
-    put_as c.put_pair-in-HeadWrite.ensures (asked_as _ c.if-bytes-lt-RECORD_BYTES.false c.requires.0 c.read.ensures.value c.in-HeadWrite.is)
+pub returns-in-Ok-HeadWrite : goal.returns-in-Ok-HeadWrite
+returns-in-Ok-HeadWrite c =
+    let i = c.in-Ok-HeadWrite in
+    put_as c.put_pair-in-Ok-HeadWrite.ensures (asked_as _ c.if-bytes-lt-RECORD_BYTES.false c.requires.0 i.ensures.value i.field-0-is)
 
-pub returns-in-Start : goal.returns-in-Start
-returns-in-Start c =
-    put_as c.put.ensures (asked_as _ c.if-bytes-lt-RECORD_BYTES.false c.requires.0 c.read.ensures.value c.in-Start.is)
+pub returns-in-Ok-Start : goal.returns-in-Ok-Start
+returns-in-Ok-Start c =
+    let i = c.in-Ok-Start in
+    put_as c.put.ensures (asked_as _ c.if-bytes-lt-RECORD_BYTES.false c.requires.0 i.ensures.value i.field-0-is)
 
-pub returns-in-Finish : goal.returns-in-Finish
-returns-in-Finish c =
-    put_as c.put_pair-in-Finish.ensures (asked_as _ c.if-bytes-lt-RECORD_BYTES.false c.requires.0 c.read.ensures.value c.in-Finish.is)
+pub returns-in-Ok-Finish : goal.returns-in-Ok-Finish
+returns-in-Ok-Finish c =
+    let i = c.in-Ok-Finish in
+    put_as c.put_pair-in-Ok-Finish.ensures (asked_as _ c.if-bytes-lt-RECORD_BYTES.false c.requires.0 i.ensures.value i.field-0-is)
 
-pub returns-in-Refused : goal.returns-in-Refused
-returns-in-Refused c =
-    put_as c.put_wrong.ensures (asked_wrong _ c.if-bytes-lt-RECORD_BYTES.false c.requires.0 c.read.ensures.value c.in-Refused.is)
+pub returns-in-Ok-End : goal.returns-in-Ok-End
+returns-in-Ok-End c =
+    let i = c.in-Ok-End in
+    put_as (put_none _ _) (asked_as _ c.if-bytes-lt-RECORD_BYTES.false c.requires.0 i.ensures.value i.field-0-is)
 
-pub returns-in-End : goal.returns-in-End
-returns-in-End c =
-    put_as (put_none _ _) (asked_as _ c.if-bytes-lt-RECORD_BYTES.false c.requires.0 c.read.ensures.value c.in-End.is)
+pub returns-in-Err : goal.returns-in-Err
+returns-in-Err c =
+    put_as c.put_wrong.ensures (asked_wrong _ c.if-bytes-lt-RECORD_BYTES.false c.requires.0 c.in-Err.ensures.value)

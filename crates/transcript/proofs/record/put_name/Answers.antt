@@ -1,41 +1,43 @@
 -- `put_name` meets its contract. Assumes nothing.
-use Rattle.std.proofs.Common.{length, ap, arith, rules}
 use Rattle.print.proofs.Puts.{put_none, put_as}
-use Rattle.transcript.proofs.Wording.{name_tail, name_head, name_start, name_finish, name_none}
+use Rattle.trace.specs.declared.Kind.TheVariants as K
+use Rattle.trace.proofs.Wholes.{number_of_kind, unnumbered}
+use Rattle.transcript.proofs.Wording.{room_as, name_tail, name_head, name_start, name_finish, name_none}
 use Rattle.transcript.proofs.record.put_name.Goals as goal
 
 pub put-requires : goal.put-requires
 put-requires c =
-    omega (arith, ap length (name_tail _ c.in-1.is), c.requires)
+    let i = c.in-Some-TailWrite in room_as (name_tail _ (number_of_kind i.ensures i.field-0-is)) _ _ c.requires
 
-pub put-requires-in-2 : goal.put-requires-in-2
-put-requires-in-2 c =
-    omega (arith, ap length (name_head _ c.in-2.is), c.requires)
+pub returns-in-Some-TailWrite : goal.returns-in-Some-TailWrite
+returns-in-Some-TailWrite c =
+    let i = c.in-Some-TailWrite in put_as c.put.ensures (name_tail _ (number_of_kind i.ensures i.field-0-is))
 
-pub put-requires-in-3 : goal.put-requires-in-3
-put-requires-in-3 c =
-    omega (arith, ap length (name_start _ c.in-3.is), c.requires)
+pub put-requires-in-Some-HeadWrite : goal.put-requires-in-Some-HeadWrite
+put-requires-in-Some-HeadWrite c =
+    let i = c.in-Some-HeadWrite in room_as (name_head _ (number_of_kind i.ensures i.field-0-is)) _ _ c.requires
 
-pub put-requires-in-4 : goal.put-requires-in-4
-put-requires-in-4 c =
-    omega (arith, ap length (name_finish _ c.in-4.is), c.requires)
+pub returns-in-Some-HeadWrite : goal.returns-in-Some-HeadWrite
+returns-in-Some-HeadWrite c =
+    let i = c.in-Some-HeadWrite in put_as c.put-in-Some-HeadWrite.ensures (name_head _ (number_of_kind i.ensures i.field-0-is))
 
-pub returns-in-1 : goal.returns-in-1
-returns-in-1 c =
-    put_as c.put.ensures (name_tail _ c.in-1.is)
+pub put-requires-in-Some-Start : goal.put-requires-in-Some-Start
+put-requires-in-Some-Start c =
+    let i = c.in-Some-Start in room_as (name_start _ (number_of_kind i.ensures i.field-0-is)) _ _ c.requires
 
-pub returns-in-2 : goal.returns-in-2
-returns-in-2 c =
-    put_as c.put-in-2.ensures (name_head _ c.in-2.is)
+pub returns-in-Some-Start : goal.returns-in-Some-Start
+returns-in-Some-Start c =
+    let i = c.in-Some-Start in put_as c.put-in-Some-Start.ensures (name_start _ (number_of_kind i.ensures i.field-0-is))
 
-pub returns-in-3 : goal.returns-in-3
-returns-in-3 c =
-    put_as c.put-in-3.ensures (name_start _ c.in-3.is)
+pub put-requires-in-Some-Finish : goal.put-requires-in-Some-Finish
+put-requires-in-Some-Finish c =
+    let i = c.in-Some-Finish in room_as (name_finish _ (number_of_kind i.ensures i.field-0-is)) _ _ c.requires
 
-pub returns-in-4 : goal.returns-in-4
-returns-in-4 c =
-    put_as c.put-in-4.ensures (name_finish _ c.in-4.is)
+pub returns-in-Some-Finish : goal.returns-in-Some-Finish
+returns-in-Some-Finish c =
+    let i = c.in-Some-Finish in put_as c.put-in-Some-Finish.ensures (name_finish _ (number_of_kind i.ensures i.field-0-is))
 
-pub returns-in_default : goal.returns-in_default
-returns-in_default c =
-    put_as (put_none _ _) (name_none _ (search rules) (search rules) (search rules) (search rules))
+pub returns-in-None : goal.returns-in-None
+returns-in-None c =
+    let no = unnumbered c.args.call c.in-None.ensures in
+    put_as (put_none _ _) (name_none _ (no K.TailWrite) (no K.HeadWrite) (no K.Start) (no K.Finish))

@@ -7,7 +7,6 @@ use Rattle.le.specs.Le.{le_at}
 use Rattle.transcript.specs.Record.{call_name}
 use Rattle.transcript.proofs.Wording.{room_as, wrong_said}
 use Rattle.transcript.proofs.record.put_wrong.Goals as goal
-use Rattle.transcript.proofs.record.put_wrong.Goals.{After-shared_slice_known-1, Start}
 
 pub put_name-to-requires : goal.put_name-to-requires
 put_name-to-requires c =

@@ -29,16 +29,6 @@ put_row-to-requires c =
     room_more c.loop-i.invariant.1 (row_text i (get_or t.numbers i 0)) (rows_text (i + 1) (drop (i + 1) t.numbers))
     (rows_next t.numbers i h) r
 
-pub overflow_add-i : goal.overflow_add-i
-unfolding largest meanings
-overflow_add-i c =
-    omega arith
-
-pub loop-i-smaller : goal.loop-i-smaller
-unfolding largest meanings
-loop-i-smaller c =
-    omega arith
-
 pub loop-i-preserved : goal.loop-i-preserved
 unfolding largest meanings
 loop-i-preserved c =
