@@ -1,6 +1,6 @@
 -- Turns within a group of queues. The group's candidates are a test on ids. `candidate`, `holder` and `remainder` are document 01's
 -- terms: "A candidate is an unmarked SQ that is not empty", "A group has a turn holder and a remainder".
-use Rattle.std.specs.Prelude.{ℕ, ◌+◌, ◌-◌, ◌%◌, Bool, true, false, ◌&&◌, ltb, Option, Some, None}
+use Rattle.std.specs.Prelude.{ℕ, ◌+◌, ◌-◌, ◌%◌, ◌^◌, Bool, true, false, ◌&&◌, ltb, Option, Some, None}
 use Rattle.rules.specs.Rules.{pick}
 use Rattle.bits.specs.Bits.{first}
 use Rattle.arbiter.specs.declared.Remainder.{Remainder}
@@ -26,6 +26,11 @@ above_zero NoLimit = true
 abbrev pub remainder_answer : Remainder → Bool × ℕ
 remainder_answer (Left n) = (false, n)
 remainder_answer NoLimit = (true, 0)
+
+-- a remainder as one number: the largest of 64 bits stands for no limit
+abbrev pub remainder_number : Remainder → ℕ
+remainder_number (Left n) = n
+remainder_number NoLimit = 2 ^ 64 - 1
 
 -- "Serving lowers the remainder by one; a remainder without limit stays so."
 abbrev pub lowered : Remainder → Remainder

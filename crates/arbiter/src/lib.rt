@@ -6,7 +6,7 @@
 ghost use Rattle.std.specs.Prelude.{◌≡◌, false, ◌%◌, ◌<◌, eqb};
 ghost use Rattle.bits.specs.Bits.{is_set};
 ghost use Rattle.arbiter.specs.Word.{burst_of, weight_at};
-ghost use Rattle.arbiter.specs.Turns.{next_after, above_zero, remainder_answer, lowered, served, turn};
+ghost use Rattle.arbiter.specs.Turns.{next_after, above_zero, remainder_answer, remainder_number, lowered, served, turn};
 ghost use Rattle.arbiter.specs.Arbiter.{some, level_full, ready, level_turn, fresh, refilled, some_waits, some_ready, refilled_if_due};
 ghost use Rattle.arbiter.specs.Arbiter.{by_group, by_level, by_weight, choice, next_answer, turn_answer, level_answer};
 ghost use Rattle.arbiter.specs.Arbiter.{group_refusal, level_refusal, chosen_answer, choice_refusal};
@@ -87,6 +87,18 @@ fn weight(word: u32, at: u32) -> u32
     (word >> at) % 256 + 1
 }
 
+impl Remainder {
+    // As a number: the largest stands for no limit.
+    pub fn number(self) -> u64
+        ensures { result ≡ remainder_number self }
+    {
+        match self {
+            Remainder::Left(n) => n as u64,
+            Remainder::NoLimit => u64::MAX,
+        }
+    }
+}
+
 fn above_zero(r: Remainder) -> bool
     ensures { result ≡ above_zero r }
 {
@@ -101,13 +113,7 @@ fn lower(r: Remainder) -> Remainder
     ensures unlimited { (remainder_answer result).0 ≡ (remainder_answer r).0 }
 {
     match r {
-        Remainder::Left(n) => {
-            if n == 0 {
-                Remainder::Left(0)
-            } else {
-                Remainder::Left(n - 1)
-            }
-        }
+        Remainder::Left(n) => Remainder::Left(n.saturating_sub(1)),
         Remainder::NoLimit => Remainder::NoLimit,
     }
 }
@@ -162,13 +168,7 @@ fn level_full(b: Remainder, credit: u32) -> Remainder
     ensures unlimited { (remainder_answer result).0 ≡ false }
 {
     match b {
-        Remainder::Left(n) => {
-            if n <= credit {
-                Remainder::Left(n)
-            } else {
-                Remainder::Left(credit)
-            }
-        }
+        Remainder::Left(n) => Remainder::Left(n.min(credit)),
         Remainder::NoLimit => Remainder::Left(credit),
     }
 }

@@ -42,7 +42,7 @@ pub fn take_one(mask: u64) -> Option<(u32, u64)>
     Some((tag, clear(mask, tag)))
 }
 
-// The two lowest free tags, the lower first, and the mask without them.
+// The two lowest free tags, the lower first, and the mask without them. Kept apart from `take_one`: what they answer differs.
 pub fn take_two(mask: u64) -> Option<(u32, u32, u64)>
     ensures value { result ≡ taken_two mask }
     ensures refusal { (two_answer mask result).0 ≡ tag_refusal 2 mask }

@@ -1,7 +1,8 @@
 // The parts of a controller's state, and the answers of a start and of a finish.
 #![tactic(auto)]
 
-// A ring of entries in memory; `exists` is false where there is none, and every number is then 0.
+// A ring of entries in memory; `exists` is false where there is none, and every number is then 0. No Option: demand 3 speaks of `exists`
+// (specs Demand.There), and every law of queues.
 #[derive(Clone, Copy)]
 pub struct Ring {
     pub base: u64,
@@ -12,7 +13,7 @@ pub struct Ring {
 }
 
 // `marked` is document 01's term: a tail value was refused with 10, and the queue takes no more tail writes and starts no more
-// commands. `cq` is the completion queue that it posts to.
+// commands. `cq` is the completion queue that it posts to. `class` stays document 01's number: specs Valid.sq_class is about it.
 #[derive(Clone, Copy)]
 pub struct SubmissionQueue {
     pub ring: Ring,
@@ -30,7 +31,8 @@ pub struct CompletionQueue {
 
 // A command that was started. `verdict` is document 01's term: the status that the start has decided on and the finish posts, and 0
 // where none is. `first` is its first half's tag plus 1 while that is outstanding, `second` its second half's tag plus 1; 0 is none.
-// `number` is its start number: how many commands the controller had taken before it.
+// `number` is its start number: how many commands the controller had taken before it. The status and the tags stay numbers: the laws of
+// commands (specs Valid.CommandOk, proofs Links) and the words that C lends have them so.
 #[derive(Clone, Copy)]
 pub struct Command {
     pub sq: u8,

@@ -1,7 +1,6 @@
 -- Laws of an answer that is shown. Assumes nothing.
 use mathlib.Core.List.{List, ◌++◌}
-use mathlib.Core.Bool.{Bool}
-use mathlib.Core.Path.{◌≡◌, ap, ◌∙◌}
+use mathlib.Core.Path.{◌≡◌}
 use Prim.Native.Nat.{ℕ, ◌+◌, ◌-◌, ◌≤◌}
 use native.Mathlib.Omega.{arith}
 use lib.ListN.{length, take, drop, length-drop}
@@ -16,8 +15,7 @@ use Rattle.stateless.specs.Leaving.{answer_bytes}
 use Rattle.shell.specs.Leaving.{Leaves}
 use Rattle.stateless.specs.declared.speak.Answered as code
 use Rattle.conversation.specs.Sizes.{shown_most}
-use Rattle.conversation.specs.Answers.{verdict_of, Shows}
-use Rattle.conversation.specs.declared.Verdict.{Verdict}
+use Rattle.conversation.specs.Answers.{Shows}
 
 -- a line put at a place p, and the rest of the buffer from s on, behind the room for a mark
 module _ (f : Form) (line : List ℕ) {o o₁ : List ℕ} {p m : ℕ} (s : ℕ) (x : Put o p (above f line) o₁ m) (i : s ≡ m + length (mark f))
@@ -49,13 +47,14 @@ module _ (f : Form) (line : List ℕ) {o o₁ : List ℕ} {p m : ℕ} (s : ℕ) 
       room_aside f line a.text s t.length x i l.text answer_fits all_fits,
     )
 
-    pub shows : {o₃ : List ℕ} {e : ℕ} {v : Verdict} → Put o₂ m (aside f line (standing f o₂ m t.length)) o₃ e
-        → v ≡ verdict_of t.good t.refusal → Shows a f line o p o₃ (record { end = e; lent = t.lent; verdict = v }) words bytes
-    shows {o₃} {e} {v} z q =
+    pub shows : {o₃ : List ℕ} {e : ℕ} → Put o₂ m (aside f line (standing f o₂ m t.length)) o₃ e
+        → Shows a f line o p o₃ (record { end = e; lent = t.lent; verdict = t.verdict }) words bytes
+    shows z =
         let w = put_shown f line a.text s t.length x i l.text answer_fits all_fits z in
         record {
           text = w;
-          verdict = q ∙ ap (λ (b : Bool). verdict_of b t.refusal) l.good ∙ ap (verdict_of a.good) l.refusal;
+          good = l.good;
+          refusal = l.refusal;
           lent = l.lent;
           controller = l.controller;
           memory = l.memory;

@@ -16,7 +16,7 @@ use store::{Controller, WORDS};
 use stream::Errno;
 
 // Of how many lines the answers are written out, and how many bytes of answers are not yet; whether the conversation goes on,
-// and the form of its answers.
+// and the form of its answers. `open` says no more than that: no value stands beside it, here or in the set-up.
 #[derive(Clone, Copy)]
 struct Dialogue {
     conversation: Conversation,

@@ -22,12 +22,12 @@ fn store(buf: &mut [u8], e: Completion, phase: u64)
     requires { (16 ≤ length buf.old) × (e.status ≤ 32767) }
     ensures { buf.new ≡ put buf.old 0 (completion_bytes e phase) }
 {
-    le::put32(buf, 0, e.result as u64);
-    le::put32(buf, 4, 0);
-    le::put16(buf, 8, e.sqhd as u64);
-    le::put16(buf, 10, e.sqid as u64);
-    le::put16(buf, 12, e.cid as u64);
-    le::put16(buf, 14, 2 * e.status as u64 + phase % 2);
+    le::put::<4>(buf, 0, e.result as u64);
+    le::put::<4>(buf, 4, 0);
+    le::put::<2>(buf, 8, e.sqhd as u64);
+    le::put::<2>(buf, 10, e.sqid as u64);
+    le::put::<2>(buf, 12, e.cid as u64);
+    le::put::<2>(buf, 14, 2 * e.status as u64 + phase % 2);
 }
 
 // Writes an entry into the first 16 bytes of `buf`.
@@ -68,13 +68,13 @@ pub fn read(buf: &[u8]) -> Result<(Completion, u8), Refusal>
     if buf.len() < 16 {
         return Err(Refusal::BufferTooShort);
     }
-    let last = le::get16(buf, 14);
+    let last = le::get::<2>(buf, 14);
     Ok((
         Completion {
-            result: le::get32(buf, 0) as u32,
-            sqhd: le::get16(buf, 8) as u16,
-            sqid: le::get16(buf, 10) as u16,
-            cid: le::get16(buf, 12) as u16,
+            result: le::get::<4>(buf, 0) as u32,
+            sqhd: le::get::<2>(buf, 8) as u16,
+            sqid: le::get::<2>(buf, 10) as u16,
+            cid: le::get::<2>(buf, 12) as u16,
             status: (last / 2) as u16,
         },
         (last % 2) as u8,

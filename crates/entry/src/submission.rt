@@ -32,11 +32,11 @@ fn store_head(buf: &mut [u8], e: Submission)
     requires { 64 ≤ length buf.old }
     ensures { buf.new ≡ sets buf.old 0 (le 1 e.opc ++ le 1 (flags e) ++ le 2 e.cid ++ le 4 e.nsid ++ le 8 0) }
 {
-    le::put8(buf, 0, e.opc as u64);
-    le::put8(buf, 1, e.fuse % 4 + 64 * (e.psdt % 4));
-    le::put16(buf, 2, e.cid as u64);
-    le::put32(buf, 4, e.nsid as u64);
-    le::put64(buf, 8, 0);
+    le::put::<1>(buf, 0, e.opc as u64);
+    le::put::<1>(buf, 1, e.fuse % 4 + 64 * (e.psdt % 4));
+    le::put::<2>(buf, 2, e.cid as u64);
+    le::put::<4>(buf, 4, e.nsid as u64);
+    le::put::<8>(buf, 8, 0);
 }
 
 // Stores bytes 16 to 47: MPTR, PRP1, PRP2 and SLBA.
@@ -44,10 +44,10 @@ fn store_pointers(buf: &mut [u8], e: Submission)
     requires { 64 ≤ length buf.old }
     ensures { buf.new ≡ sets buf.old 16 (le 8 e.mptr ++ le 8 e.prp1 ++ le 8 e.prp2 ++ le 8 e.slba) }
 {
-    le::put64(buf, 16, e.mptr);
-    le::put64(buf, 24, e.prp1);
-    le::put64(buf, 32, e.prp2);
-    le::put64(buf, 40, e.slba);
+    le::put::<8>(buf, 16, e.mptr);
+    le::put::<8>(buf, 24, e.prp1);
+    le::put::<8>(buf, 32, e.prp2);
+    le::put::<8>(buf, 40, e.slba);
 }
 
 // Stores bytes 48 to 63: NLB and the rest of CDW12 to CDW15.
@@ -55,11 +55,11 @@ fn store_dwords(buf: &mut [u8], e: Submission)
     requires { 64 ≤ length buf.old }
     ensures { buf.new ≡ sets buf.old 48 (le 2 e.nlb ++ le 2 e.cdw12_upper ++ le 4 e.cdw13 ++ le 4 e.cdw14 ++ le 4 e.cdw15) }
 {
-    le::put16(buf, 48, e.nlb as u64);
-    le::put16(buf, 50, e.cdw12_upper as u64);
-    le::put32(buf, 52, e.cdw13 as u64);
-    le::put32(buf, 56, e.cdw14 as u64);
-    le::put32(buf, 60, e.cdw15 as u64);
+    le::put::<2>(buf, 48, e.nlb as u64);
+    le::put::<2>(buf, 50, e.cdw12_upper as u64);
+    le::put::<4>(buf, 52, e.cdw13 as u64);
+    le::put::<4>(buf, 56, e.cdw14 as u64);
+    le::put::<4>(buf, 60, e.cdw15 as u64);
 }
 
 // Stores the 64 bytes of an entry.
@@ -92,21 +92,21 @@ pub fn read(buf: &[u8]) -> Result<Submission, Refusal>
     if buf.len() < 64 {
         return Err(Refusal::BufferTooShort);
     }
-    let flags = le::get8(buf, 1);
+    let flags = le::get::<1>(buf, 1);
     Ok(Submission {
-        opc: le::get8(buf, 0) as u8,
+        opc: le::get::<1>(buf, 0) as u8,
         fuse: flags % 4,
         psdt: flags / 64,
-        cid: le::get16(buf, 2) as u16,
-        nsid: le::get32(buf, 4) as u32,
-        mptr: le::get64(buf, 16),
-        prp1: le::get64(buf, 24),
-        prp2: le::get64(buf, 32),
-        slba: le::get64(buf, 40),
-        nlb: le::get16(buf, 48) as u16,
-        cdw12_upper: le::get16(buf, 50) as u16,
-        cdw13: le::get32(buf, 52) as u32,
-        cdw14: le::get32(buf, 56) as u32,
-        cdw15: le::get32(buf, 60) as u32,
+        cid: le::get::<2>(buf, 2) as u16,
+        nsid: le::get::<4>(buf, 4) as u32,
+        mptr: le::get::<8>(buf, 16),
+        prp1: le::get::<8>(buf, 24),
+        prp2: le::get::<8>(buf, 32),
+        slba: le::get::<8>(buf, 40),
+        nlb: le::get::<2>(buf, 48) as u16,
+        cdw12_upper: le::get::<2>(buf, 50) as u16,
+        cdw13: le::get::<4>(buf, 52) as u32,
+        cdw14: le::get::<4>(buf, 56) as u32,
+        cdw15: le::get::<4>(buf, 60) as u32,
     })
 }

@@ -1,3 +1,2 @@
-pub mod Formed
 pub mod Rows
 pub mod Outside

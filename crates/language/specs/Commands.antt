@@ -12,8 +12,7 @@ use Rattle.ring.specs.Reader.{waiting_answer, ring_read}
 use Rattle.prp.specs.Pages.{page_size, byte_counts}
 use Rattle.prp.specs.Walk.{page_walk}
 use Rattle.prp.specs.Answer.{answer, refusal_of, pages_of, reads_of, addresses_of}
-use Rattle.arbiter.specs.declared.Remainder.{Remainder}
-use Rattle.arbiter.specs.declared.Remainder.TheVariants.{Left, NoLimit}
+use Rattle.arbiter.specs.Turns.{remainder_number}
 use Rattle.arbiter.specs.declared.Level.{Level}
 use Rattle.controller.specs.Controller.{Controller}
 use Rattle.controller.specs.State.{sq_at, cq_at, command_at, outstanding, new_refusal, new_controller}
@@ -163,11 +162,6 @@ replayed c m room trace =
 
 abbrev pub bit_of : Bool → ℕ
 bit_of b = pick b 1 0
-
--- a remainder without limit is the largest number
-abbrev pub remainder_number : Remainder → ℕ
-remainder_number (Left n) = n
-remainder_number NoLimit = 2 ^ 64 - 1
 
 abbrev pub level_numbers : Level → List ℕ → List ℕ
 level_numbers l ns = l.group.holder ∷ remainder_number l.group.remainder ∷ l.credit ∷ ns

@@ -1,5 +1,4 @@
 pub mod Vocabulary
-pub mod Words
 pub mod Forms
 pub mod State
 pub mod Replies

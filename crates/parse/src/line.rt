@@ -5,7 +5,8 @@ ghost use Rattle.parse.specs.Line.{is_blank, in_word, lead, before, NextWord, wi
 // The longest line, without its LF.
 pub const MOST_BYTES: usize = 4096;
 
-// Where a word stands in a line; it is empty where there is no word left.
+// Where a word stands in a line; it is empty where there is no word left. No Option: who reads on needs `end` then too, and the clause
+// NextWord tells it.
 #[derive(Clone, Copy)]
 pub struct Word {
     pub start: usize,
@@ -76,7 +77,7 @@ pub fn without_cr(line: &[u8]) -> usize
     n - 1
 }
 
-// Whether two texts are the same.
+// Whether two texts are the same. A name for `==`, which docs/MAP.md has.
 pub fn is_same(a: &[u8], b: &[u8]) -> bool
     ensures { result ≡ same a.now b.now }
 {

@@ -1,5 +1,5 @@
 // What is said on standard error.
-ghost use Rattle.std.specs.Prelude.{◌≤◌};
+ghost use Rattle.std.specs.Prelude.{◌≤◌, length};
 
 use std::fmt::Display;
 use std::io::{Cursor, Error, Write};
@@ -8,17 +8,14 @@ use stream::Errno;
 // The room for the system's words for an error, and for its number behind them.
 const REASON_BYTES: usize = 320;
 
-// How many of the first `n` bytes stand before the last `(`, and the space before it, by which std sets an error's number off.
-fn without_number(text: &[u8], n: usize) -> usize
-    ensures { result ≤ n }
+// How many bytes stand before the last `(`, and the space before it, by which std sets an error's number off.
+fn without_number(text: &[u8]) -> usize
+    ensures { result ≤ length text.now }
 {
-    let mut end = n;
-    for (i, byte) in text.iter().enumerate() {
-        if *byte == b'(' && i > 0 && i < n {
-            end = i - 1;
-        }
+    match text.iter().rposition(|byte| *byte == b'(') {
+        Some(i) if i > 0 => i - 1,
+        _ => text.len(),
     }
-    end
 }
 
 // Of a call that failed: what it was, and the system's words for the reason.
@@ -26,8 +23,8 @@ fn say(rt: &impl Eprint, what: impl Display + Drop, error: Error) {
     let mut text = [0u8; REASON_BYTES];
     let mut room = Cursor::new(&mut text[..]);
     let _ = write!(room, "{error}");
-    let written = room.position();
-    let n = without_number(&text, written.min(REASON_BYTES as u64) as usize);
+    let written = room.position().min(REASON_BYTES as u64) as usize;
+    let n = without_number(&text[..written]);
     if let Ok(reason) = std::str::from_utf8(&text[..n]) {
         let _ = eprintln!(rt; "{what}: {reason}");
     }

@@ -37,11 +37,9 @@ fn after(records: u64, more: u64) -> u64
     records.wrapping_add(more.wrapping_add(1))
 }
 
-// Writes n bytes out, the lines of the records after those that are counted, and answers whether it could.
-fn is_written(rt: &impl Eprint, output: &mut impl Write, out: &[u8], n: usize, records: u64) -> bool
-    requires { n ≤ length out.now }
-{
-    if let Err(error) = stream::write(output, &out[..n]) {
+// Writes the lines of the records after those that are counted out, and answers whether it could.
+fn is_written(rt: &impl Eprint, output: &mut impl Write, text: &[u8], records: u64) -> bool {
+    if let Err(error) = stream::write(output, text) {
         say_at(
             rt,
             "playback: standard output, record",
@@ -65,7 +63,7 @@ fn print_piece(
     requires { (length trace.now ≤ 4096) × (4096 ≡ length answers.now) × (65536 ≡ length out.old) }
 {
     let piece = put_piece(out, s.tally, trace, answers);
-    let written = is_written(rt, output, out, piece.end, s.tally.records);
+    let written = is_written(rt, output, &out[..piece.end], s.tally.records);
     Play {
         tally: piece.tally,
         stage: if written { s.stage } else { Stage::Stopped },
@@ -182,7 +180,7 @@ fn print_summary(
     out: &mut [u8; ROOM_BYTES],
 ) {
     let n = put_summary(out, tally);
-    is_written(rt, output, out, n, tally.records);
+    is_written(rt, output, &out[..n], tally.records);
 }
 
 // Replays the whole trace; the summary is printed where nothing has stopped it. A proved loop has to end: the turns are bounded by a

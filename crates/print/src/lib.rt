@@ -1,5 +1,5 @@
 // Texts, written into a buffer that is lent. Each function writes its text from `at` on, leaves every other byte as it was, asks for
-// exactly the room of the text and answers the place after it.
+// exactly the room of the text and answers the place after it. No `Display`: the clause of each, `Put`, tells every byte that is left.
 #![tactic(auto)]
 
 ghost use Rattle.std.specs.Prelude.{◌≡◌, ◌∷◌, [], ◌+◌, ◌/◌, ◌%◌, ◌≤◌, ◌<◌, length};
@@ -89,7 +89,7 @@ fn put_hex_byte(out: &mut [u8], at: usize, b: u8) -> usize
     put_one(out, to, hex_digit(b % 16))
 }
 
-// Bytes in hexadecimal, two digits each.
+// Bytes in hexadecimal, two digits each. Kept apart from `put_numbers`: one for both would be longer than the two.
 pub fn put_hex(out: &mut [u8], at: usize, bytes: &[u8]) -> usize
     requires { at + length (hex bytes.now) ≤ length out.old }
     ensures { Put out.old at (hex bytes.now) out.new result }

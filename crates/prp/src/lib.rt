@@ -113,7 +113,7 @@ fn list_pages(memory: &[u8], start: u64, count: u64, page: Page) -> Result<Walke
                 walked = Err(Refusal::ListEntryOutsideMemory);
                 break 'pages;
             }
-            let entry = le::get64(memory, at as usize);
+            let entry = le::get::<8>(memory, at as usize);
             reads += 1;
             if page.offset(entry) != 0 {
                 walked = Err(Refusal::InvalidPrpOffset);
@@ -171,15 +171,15 @@ fn store_list(memory: &[u8], start: u64, count: u64, page: Page, addresses: &mut
     loop {
         let mut more = left.min(page.entries_from(at));
         while more > 1 {
-            le::put64(addresses, to, le::get64(memory, at as usize));
+            le::put::<8>(addresses, to, le::get::<8>(memory, at as usize));
             more -= 1;
             left -= 1;
             at += 8;
             to += 8;
         }
-        let entry = le::get64(memory, at as usize);
+        let entry = le::get::<8>(memory, at as usize);
         if left == 1 {
-            le::put64(addresses, to, entry);
+            le::put::<8>(addresses, to, entry);
             return;
         }
         at = entry;
@@ -200,12 +200,12 @@ fn store_addresses(
     ensures { addresses.new ≡ put addresses.old 0
         (numbers 8 (addresses_of (data_pages (page_size page.number) memory.now prp1 prp2 count))) }
 {
-    le::put64(addresses, 0, prp1);
+    le::put::<8>(addresses, 0, prp1);
     if count == 1 {
         return;
     }
     if count == 2 {
-        le::put64(addresses, 8, prp2);
+        le::put::<8>(addresses, 8, prp2);
         return;
     }
     store_list(memory, prp2, count - 1, page, addresses);
@@ -221,11 +221,11 @@ fn store_counts(prp1: u64, len: u64, count: u64, page: Page, counts: &mut [u8])
     let mut left = len;
     let last = (count - 1) as usize;
     for i in 0..last {
-        le::put32(counts, 4 * i, room);
+        le::put::<4>(counts, 4 * i, room);
         left -= room;
         room = page.size();
     }
-    le::put32(counts, 4 * last, left);
+    le::put::<4>(counts, 4 * last, left);
 }
 
 // Walks the pages of `len` bytes at `prp1`, with the page size number `page`, and stores each page's address in 8 bytes
@@ -243,7 +243,8 @@ pub fn walk(
     ensures addresses_after { addresses.new ≡ put addresses.old 0 (numbers 8 (addresses_of
         (page_walk memory.now prp1 prp2 len page (length addresses.old) (length counts.old)))) }
     ensures counts_after { counts.new ≡ put counts.old 0 (numbers 4 (byte_counts (page_size page) prp1 len (pages_of (by_number result)))) }
-    ensures refusal { refusal_of (by_number result) ≡ walk_refusal memory.now prp1 prp2 len page (length addresses.old) (length counts.old) }
+    ensures refusal { refusal_of (by_number result)
+        ≡ walk_refusal memory.now prp1 prp2 len page (length addresses.old) (length counts.old) }
     ensures reads { reads_of (by_number result) ≡ walk_reads memory.now prp1 prp2 len page (length addresses.old) (length counts.old) }
 {
     let page = may_walk(prp1, len, page, addresses.len(), counts.len())?;

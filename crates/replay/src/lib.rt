@@ -66,11 +66,11 @@ fn put_answer(room: &mut [u8], at: usize, byte: u64, answer: Result<u64, Refusal
         Ok(value) => (0, value),
         Err(refusal) => (refusal.number(), 0),
     };
-    le::put8(room, at, byte);
-    le::put8(room, at + 1, refusal);
-    le::put16(room, at + 2, value);
-    le::put32(room, at + 4, 0);
-    le::put64(room, at + 8, 0);
+    le::put::<1>(room, at, byte);
+    le::put::<1>(room, at + 1, refusal);
+    le::put::<2>(room, at + 2, value);
+    le::put::<4>(room, at + 4, 0);
+    le::put::<8>(room, at + 8, 0);
 }
 
 // Answers the record at a place of the trace, at the same place of the room.
@@ -83,7 +83,7 @@ fn answer(state: &mut [u64; WORDS], memory: &mut [u8], trace: &[u8], room: &mut 
         × (room.new ≡ put room.old at (answer_bytes (sent x) d.refusal d.result)) }
 {
     let a = execute(state, memory, read(trace, at));
-    put_answer(room, at, le::get8(trace, at), a);
+    put_answer(room, at, le::get::<1>(trace, at), a);
 }
 
 // How many records are begun in so many bytes.

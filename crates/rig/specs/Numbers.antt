@@ -2,8 +2,7 @@
 use Rattle.std.specs.Prelude.{ℕ, ◌-◌, ◌^◌, Bool, not, [], ◌∷◌, ltb}
 use Rattle.rules.specs.Rules.{pick, first_match, settle}
 use Rattle.arbiter.specs.declared.Arbiter.{Arbiter}
-use Rattle.arbiter.specs.declared.Remainder.{Remainder}
-use Rattle.arbiter.specs.declared.Remainder.TheVariants.{Left, NoLimit}
+use Rattle.arbiter.specs.Turns.{remainder_number}
 use Rattle.controller.specs.Controller.{Controller}
 use Rattle.controller.specs.State.{sq_at, cq_at, command_at, outstanding}
 use Rattle.controller.specs.Answers.{Answer, refused, done, started, finished}
@@ -90,11 +89,6 @@ command_numbers c tag =
     let k = command_at c tag in
     settle (first_match ((not (outstanding c.free tag), 14) ∷ [])) no_command_numbers
     (record { refusal = 0; sq = k.sq; cid = k.cid; verdict = k.verdict; number = k.number })
-
--- a remainder without limit is the largest number
-abbrev pub remainder_number : Remainder → ℕ
-remainder_number (Left n) = n
-remainder_number NoLimit = 2 ^ 64 - 1
 
 abbrev pub arbiter_numbers : Arbiter → ArbiterNumbers
 arbiter_numbers a =

@@ -1,5 +1,5 @@
 // What a C program calls, by the exports of `rig_c`. Here the calls on plain numbers and byte buffers. An answer of several numbers goes
-// back in a struct; beside a refusal every other number is 0.
+// back in a struct, which has the refusal beside the values, as C reads it; beside a refusal every other number is 0.
 #![tactic(auto)]
 
 ghost use Rattle.std.specs.Prelude.{◌≡◌, length};

@@ -8,9 +8,8 @@ ghost use Rattle.controller.specs.State.{new_refusal, new_controller};
 ghost use Rattle.store.specs.Held.{held, Holds, Reached};
 ghost use Rattle.replay.specs.Replay.{replay};
 ghost use Rattle.rig.specs.Numbers.{start_numbers, finish_numbers, replay_numbers, no_sq_numbers, sq_numbers, no_cq_numbers, cq_numbers};
-ghost use Rattle.rig.specs.Numbers.{command_numbers, remainder_number, arbiter_numbers};
+ghost use Rattle.rig.specs.Numbers.{command_numbers, arbiter_numbers};
 
-use arbiter::Remainder;
 use controller::Started;
 use rules::refusal::code;
 use store::{Controller, WORDS, arbiter_of, command_at, cq_at, free_of, is_outstanding, sq_at};
@@ -367,15 +366,6 @@ pub fn bellrafter_look_command(state: &[u64; WORDS], tag: u64) -> CommandNumbers
     }
 }
 
-fn number_of(r: Remainder) -> u64
-    ensures { result ≡ remainder_number r }
-{
-    match r {
-        Remainder::Left(n) => n as u64,
-        Remainder::NoLimit => u64::MAX,
-    }
-}
-
 // Turn holders, remainders and credits.
 pub fn bellrafter_look_arbiter(state: &[u64; WORDS]) -> ArbiterNumbers
     ensures { result ≡ arbiter_numbers (held state.now).arbiter }
@@ -385,15 +375,15 @@ pub fn bellrafter_look_arbiter(state: &[u64; WORDS]) -> ArbiterNumbers
         mechanism: u64::from(a.weighted),
         word: a.word as u64,
         holder: a.group.holder as u64,
-        remainder: number_of(a.group.remainder),
+        remainder: a.group.remainder.number(),
         high_holder: a.high.group.holder as u64,
-        high_remainder: number_of(a.high.group.remainder),
+        high_remainder: a.high.group.remainder.number(),
         high_credit: a.high.credit as u64,
         medium_holder: a.medium.group.holder as u64,
-        medium_remainder: number_of(a.medium.group.remainder),
+        medium_remainder: a.medium.group.remainder.number(),
         medium_credit: a.medium.credit as u64,
         low_holder: a.low.group.holder as u64,
-        low_remainder: number_of(a.low.group.remainder),
+        low_remainder: a.low.group.remainder.number(),
         low_credit: a.low.credit as u64,
     }
 }

@@ -8,7 +8,7 @@ ghost use Rattle.controller.specs.State.{new_refusal, new_controller};
 ghost use Rattle.store.specs.Held.{held, Holds, Reached};
 ghost use Rattle.replay.specs.Replay.{replay};
 ghost use Rattle.rig.specs.Numbers.{start_numbers, finish_numbers, replay_numbers, no_sq_numbers, sq_numbers, no_cq_numbers, cq_numbers};
-ghost use Rattle.rig.specs.Numbers.{command_numbers, bit_of, remainder_number, arbiter_numbers};
+ghost use Rattle.rig.specs.Numbers.{command_numbers, arbiter_numbers};
 
 use rig::state::{
     ArbiterNumbers, CommandNumbers, CqNumbers, FinishNumbers, ReplayNumbers, SqNumbers,

@@ -45,7 +45,7 @@ fn places(size: u64, head: u64, tail: u64) -> Result<(), Refusal>
     Ok(())
 }
 
-// The check of a tail value for a submission queue.
+// The check of a tail value for a submission queue. Kept apart from that of a head value: each has one line of its own, and C has both.
 pub fn check_tail(size: u64, head: u64, tail: u64, value: u64) -> Result<(), Refusal>
     ensures { code result ≡ tail_check size head tail value }
 {

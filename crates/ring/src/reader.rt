@@ -11,7 +11,7 @@ fn phase_in(ring: &[u8], slot: u64) -> u64
     requires { (slot < 1024) × (16 * slot + 16 ≤ length ring.now) }
     ensures { result ≡ phase_in ring.now slot }
 {
-    le::get8(ring, (16 * slot + 14) as usize) % 2
+    le::get::<1>(ring, (16 * slot + 14) as usize) % 2
 }
 
 // How many entries in a row, from `slot` on and at most `most`, have the phase tag: none of them lies past the wrap.

@@ -466,24 +466,12 @@ fn plan_of(line: &[u8]) -> Plan
     }
 }
 
-// How many of the first `n` bytes stand before an LF at their end.
-fn without_lf(input: &[u8], n: usize) -> usize
-    requires { n ≤ length input.now }
-    ensures { result ≤ n }
-{
-    if n == 0 {
-        return 0;
-    }
-    if input[n - 1] == b'\n' {
-        return n - 1;
-    }
-    n
-}
-
+// The digest for a plan on a line, which may end in LF.
 fn digest_for(input: &[u8]) -> u64 {
-    let n = input.len();
-    let end = without_lf(input, n);
-    digest_of(plan_of(&input[..end]))
+    match input {
+        [line @ .., b'\n'] => digest_of(plan_of(line)),
+        _ => digest_of(plan_of(input)),
+    }
 }
 
 fn main(rt: HostRuntime) -> io::Result<()> {

@@ -2,6 +2,7 @@
 #![tactic(auto)]
 
 ghost use Rattle.std.specs.Prelude.{◌≡◌, ◌≤◌, length, IfOk, MatchResult};
+ghost use Rattle.rules.specs.Refusal as refusals;
 ghost use Rattle.store.specs.Held.{Reached};
 ghost use Rattle.print.specs.Put.{Put};
 ghost use Rattle.lines.specs.Sizes.{held_bytes};
@@ -10,11 +11,13 @@ ghost use Rattle.conversation.specs.Sizes.{out_bytes};
 ghost use Rattle.conversation.specs.Steps.{Kept, Short};
 ghost use Rattle.setup.specs.Refused.{refused_line};
 
-use conversation::{Conversation, Event, OUT_BYTES, Step, Verdict};
+use conversation::{Conversation, Event, OUT_BYTES, Step};
 use form::Form;
 use language::sizes::{MEMORY_BYTES, NUMBERS, WALK_BYTES};
 use lines::{CHUNK_BYTES, HELD_BYTES};
 use parse::line::next_word;
+use rules::refusal::Refusal;
+use stateless::speak::Verdict;
 use std::io::{Read, Write};
 use store::WORDS;
 use stream::Errno;
@@ -36,15 +39,15 @@ struct Progress {
 }
 
 // What is told of a line whose call was refused, at the start of `out`.
-fn put_refused(line: &[u8], number: u64, refusal: u64, out: &mut [u8]) -> usize
+fn put_refused(line: &[u8], number: u64, refusal: Refusal, out: &mut [u8]) -> usize
     requires { (length line.now ≤ held_bytes) × (out_bytes ≡ length out.old) }
-    ensures { Put out.old 0 (refused_line line.now number refusal) out.new result
+    ensures { Put out.old 0 (refused_line line.now number (refusals.number refusal)) out.new result
         × (result ≤ length out.old) }
 {
     let word = next_word(line, 0);
     let start = word.start;
     let end = word.end;
-    put_setup_line(out, 0, number, &line[start..end], refusal)
+    put_setup_line(out, 0, number, &line[start..end], refusal.number())
 }
 
 // Tells it.
@@ -52,7 +55,7 @@ fn tell(
     output: &mut impl Write,
     line: &[u8],
     number: u64,
-    refusal: u64,
+    refusal: Refusal,
     out: &mut [u8],
 ) -> Result<(), Fault>
     requires { (length line.now ≤ held_bytes) × (out_bytes ≡ length out.old) }
@@ -62,7 +65,7 @@ fn tell(
         Ok(()) => Ok(()),
         Err(error) => Err(Fault::Unwritten {
             line: number,
-            error: error,
+            error,
         }),
     }
 }
@@ -106,14 +109,11 @@ fn after(
         Event::Failed(error) => {
             return Err(Fault::Unread {
                 line: ended.wrapping_add(1),
-                error: error,
+                error,
             });
         }
     };
-    Ok(Progress {
-        conversation: conversation,
-        open: open,
-    })
+    Ok(Progress { conversation, open })
 }
 
 // Takes a step in the file. The last two buffers are to work in.

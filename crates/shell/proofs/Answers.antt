@@ -12,6 +12,7 @@ use Rattle.parse.specs.Line.{words_of, most_bytes}
 use Rattle.parse.specs.Arguments.{arguments_in}
 use Rattle.print.proofs.Puts.{put_none}
 use Rattle.stateless.specs.declared.speak.Answered as code
+use Rattle.stateless.specs.declared.speak.Verdict.TheVariants.{Good}
 use Rattle.language.specs.declared.command.Command.{Command}
 use Rattle.std.specs.Prelude.{Some, None}
 use Rattle.language.specs.Vocabulary.{memory_bytes, form, named}
@@ -77,7 +78,7 @@ module _ (words : List ℕ) (m : Memory) (lent : ℕ) (h : Reached words) (i : l
 
   -- a line with no word
   pub nothing_leaves : (n : ℕ) (o : List ℕ)
-      → Leaves (by_words (console (held words) m lent) n []) o o (record { length = 0; lent = lent; good = true; refusal = 0 }) words m
+      → Leaves (by_words (console (held words) m lent) n []) o o (record { length = 0; lent = lent; verdict = Good }) words m
   unfolding by_words
   nothing_leaves n o =
       record {

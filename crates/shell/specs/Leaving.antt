@@ -10,14 +10,14 @@ use Rattle.language.specs.Vocabulary.{memory_bytes, walk_bytes, form}
 use Rattle.language.specs.State.{Console}
 use Rattle.language.specs.Replies.{Said}
 use Rattle.language.specs.Line.{Answered}
-use Rattle.stateless.specs.Leaving.{firsts, Narrow, answer_bytes, Printed}
+use Rattle.stateless.specs.Leaving.{firsts, Narrow, answer_bytes, good_of, refused_by, Printed}
 use Rattle.stateless.specs.declared.speak.Answered as code
 
 -- an answer, the words that hold the controller, and the memory
 pub record Leaves (a : Answered) (before after : List ℕ) (r : code.Answered) (words bytes : List ℕ) : Type 0 where
   pub text : Put before 0 a.text after r.length
-  pub good : r.good ≡ a.good
-  pub refusal : r.refusal ≡ a.refusal
+  pub good : good_of r.verdict ≡ a.good
+  pub refusal : refused_by r.verdict ≡ a.refusal
   pub lent : r.lent ≡ a.console.lent
   pub controller : held words ≡ a.console.controller
   pub memory : bytes ≡ a.console.memory

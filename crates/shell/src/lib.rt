@@ -16,7 +16,7 @@ use language::sizes::NUMBERS;
 use language::vocabulary::command_of;
 use parse::arguments::read;
 use parse::line::{MOST_BYTES, next_word};
-use stateless::speak::{Answered, say_bad};
+use stateless::speak::{Answered, Verdict, say_bad};
 use store::WORDS;
 
 mod obey;
@@ -45,10 +45,7 @@ fn execute(
         return say_bad(out, number, lent);
     };
     let form = form_of(command);
-    let largest = form.largest;
-    let count = form.count;
-    let rest = form.rest;
-    let Some(given) = read(line, end, &largest[..count], rest, numbers, first) else {
+    let Some(given) = read(line, end, form.largest, form.rest, numbers, first) else {
         return say_bad(out, number, lent);
     };
     obey(
@@ -94,8 +91,7 @@ pub fn answer(
         return Answered {
             length: 0,
             lent,
-            good: true,
-            refusal: 0,
+            verdict: Verdict::Good,
         };
     }
     execute(

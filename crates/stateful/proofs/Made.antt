@@ -6,7 +6,10 @@ use mathlib.Core.List.{List, [], ◌∷◌}
 use Prim.Native.Nat.{ℕ}
 use lib.Dec.{eqb}
 use borrow.Author.Tests.{eqb-true}
+use Rattle.std.specs.Prelude.{⊤, Result}
 use Rattle.rules.specs.Rules.{pick}
+use Rattle.rules.specs.Refusal.{code}
+use Rattle.rules.specs.declared.refusal.Refusal.{Refusal}
 use Rattle.le.specs.Memory.{Memory}
 use Rattle.controller.specs.Controller.{Controller}
 use Rattle.controller.specs.Answers.{Answer, Outcome, done, refused, number_of, outcome}
@@ -30,12 +33,12 @@ pub calling_made : (f : Answer → List ℕ) (a : Answer) (c d : Controller) (m 
 calling_made f a c d m m₁ x r e h =
     ap (λ (s : Said). reply s d m₁) e ∙ ap (λ (o : Outcome). reply (changed (f o.answer)) o.controller o.memory) h
 
--- a call that answers its refusal number
-pub call_made : {k : ℕ} (n : ℕ) (c d : Controller) (m : Memory) (x : Call) (r : short.Reply) → k ≡ n → r ≡ changed_reply k 1
-    → outcome (of_number n) d m ≡ perform c m x → reply (heard r) d m ≡ called c m x
-call_made n c d m x r is e h =
-    calling_made (λ a. number_of a ∷ []) (of_number n) c d m m x r
-    (ap heard e ∙ ap (λ (i : ℕ). changed (i ∷ [])) (is ∙ sym (number_of_lem n))) h
+-- a call that answers by its refusal alone
+pub call_made : (a : Result ⊤ Refusal) (c d : Controller) (m : Memory) (x : Call) (r : short.Reply) → r ≡ changed_reply a 1
+    → outcome (of_number (code a)) d m ≡ perform c m x → reply (heard r) d m ≡ called c m x
+call_made a c d m x r e h =
+    calling_made (λ b. number_of b ∷ []) (of_number (code a)) c d m m x r
+    (ap heard e ∙ ap (λ (i : ℕ). changed (i ∷ [])) (sym (number_of_lem (code a)))) h
 
 -- a bit by std's conversion
 pub bit_is : (b : Bool) → from_bool b ≡ bit_of b

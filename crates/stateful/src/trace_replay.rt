@@ -1,5 +1,6 @@
 // The replay of a trace that stands on a line.
 ghost use Rattle.std.specs.Prelude.{◌≡◌, ◌∷◌, [], ℕ, ◌≤◌, length};
+ghost use Rattle.rules.specs.Refusal.{number};
 ghost use Rattle.parse.specs.Line.{most_bytes};
 ghost use Rattle.store.specs.Held.{held, Reached};
 ghost use Rattle.language.specs.Vocabulary.{replay_bytes};
@@ -8,6 +9,7 @@ ghost use Rattle.language.specs.Commands.{replayed};
 ghost use Rattle.stateless.specs.Leaving.{Printed, answer_bytes};
 
 use replay::replay;
+use rules::refusal::Refusal;
 use stateless::speak::{Answered, say};
 use store::WORDS;
 
@@ -18,16 +20,16 @@ fn say_records(out: &mut [u8], word: &[u8], records: u64, answers: &[u8], lent: 
         out.old out.new lent result }
 {
     let numbers = [0, records];
-    say(out, word, 0, &numbers, answers, lent)
+    say(out, word, Ok(()), &numbers, answers, lent)
 }
 
-fn say_refused(out: &mut [u8], word: &[u8], refusal: u64, lent: usize) -> Answered
+fn say_refused(out: &mut [u8], word: &[u8], refusal: Refusal, lent: usize) -> Answered
     requires { (length word.now ≤ most_bytes) × (answer_bytes ≤ length out.old) }
-    ensures { (n : ℕ) → Printed (s.say refusal (refusal ∷ 0 ∷ []) []) word.now n
+    ensures { (n : ℕ) → Printed (s.say (number refusal) (number refusal ∷ 0 ∷ []) []) word.now n
         out.old out.new lent result }
 {
-    let numbers = [refusal, 0];
-    say(out, word, refusal, &numbers, b"", lent)
+    let numbers = [refusal.number(), 0];
+    say(out, word, Err(refusal), &numbers, b"", lent)
 }
 
 // Replays a trace, with a room for its answer records.
@@ -52,6 +54,6 @@ pub fn replay_trace(
             let end = 16 * n as usize;
             say_records(out, word, n, &answers[..end], lent)
         }
-        Err(refusal) => say_refused(out, word, refusal.number(), lent),
+        Err(refusal) => say_refused(out, word, refusal, lent),
     }
 }

@@ -1,5 +1,5 @@
 -- Laws of parts of the memory, in it or not. Assumes nothing.
-use mathlib.Core.Path.{◌≡◌, refl, sym, ap, ◌∙◌}
+use mathlib.Core.Path.{◌≡◌, refl, ap, ◌∙◌}
 use mathlib.Core.Bool.{true, false}
 use mathlib.Core.List.{List, [], ◌++◌}
 use Prim.Native.Nat.{ℕ, ◌-◌, ◌≤◌, ◌<◌}
@@ -58,31 +58,20 @@ module _ (c : Controller) (m : Memory) (k : OnPart) (l : List ℕ) (s : Said) wh
   abbrev ns : List ℕ
   ns = firsts (length (on_part_form k)) 0 l
 
-  part_bad : outside m (get_or l 0 0) (get_or l 1 0) ≡ true → parts_used c m k ns ≡ reply bad c m
-  part_bad h = rw (place_first k l, room_second k l, h)
-
-  pub part_begins_out : s ≡ bad → length m < get_or l 0 0 → reply s c m ≡ parts_used c m k ns
-  part_begins_out e h = ap (λ (x : Said). reply x c m) e ∙ sym (part_bad (begins_out m (get_or l 0 0) (get_or l 1 0) h))
-
-  pub part_ends_out : s ≡ bad → get_or l 0 0 ≤ length m → length m - get_or l 0 0 < get_or l 1 0 → reply s c m ≡ parts_used c m k ns
-  part_ends_out e h j = ap (λ (x : Said). reply x c m) e ∙ sym (part_bad (ends_out m (get_or l 0 0) (get_or l 1 0) h j))
-
-  -- e is the room as the borrow checker has it
-  pub part_used : (e : ℕ) (b : List ℕ) → e ≡ get_or l 1 0 → get_or l 0 0 ≤ length m → get_or l 1 0 ≤ length m - get_or l 0 0 → e ≡ length b
-      → (s, b) ≡ on_part k ns (take e (drop (get_or l 0 0) m))
-      → reply s c (take (get_or l 0 0) m ++ (b ++ drop e (drop (get_or l 0 0) m))) ≡ parts_used c m k ns
-  part_used e b q h j u w =
-      rw (place_first k l, room_second k l, lies_in m (get_or l 0 0) (get_or l 1 0) h j, ← as_part m (get_or l 0 0) (get_or l 1 0) e q, ← w)
+  -- from is the place and e the room, as the borrow checker has them
+  pub part_used : (from e : ℕ) (b : List ℕ) → outside m (get_or l 0 0) (get_or l 1 0) ≡ false → from ≡ get_or l 0 0 → e ≡ get_or l 1 0
+      → e ≡ length b → (s, b) ≡ on_part k ns (take e (drop from m))
+      → reply s c (take from m ++ (b ++ drop e (drop from m))) ≡ parts_used c m k ns
+  part_used from e b o f q u w =
+      rw (place_first k l, room_second k l, o, f, ← as_part m (get_or l 0 0) (get_or l 1 0) e q, ← (rw f at w))
       (ap (reply s c) (as_put m (get_or l 0 0) e b u))
 
 -- ---- what is peeked at
 
 module _ (m : Memory) (place n : ℕ) where
-  pub peek_begins_out : length m < place → peeked m place n ≡ bad
-  peek_begins_out h = rw (begins_out m place n h)
+  pub peek_outside : outside m place n ≡ true → peeked m place n ≡ bad
+  peek_outside h = rw h
 
-  pub peek_ends_out : place ≤ length m → length m - place < n → peeked m place n ≡ bad
-  peek_ends_out h j = rw (ends_out m place n h j)
-
-  pub peek_inside : (e : ℕ) → place ≤ length m → n ≤ length m - place → e ≡ n → peeked m place n ≡ say 0 [] (take e (drop place m))
-  peek_inside e h j q = rw (lies_in m place n h j, as_part m place n e q)
+  pub peek_inside : (from e : ℕ) → outside m place n ≡ false → from ≡ place → e ≡ n
+      → peeked m place n ≡ say 0 [] (take e (drop from m))
+  peek_inside from e o f q = rw (o, f, as_part m place n e q)

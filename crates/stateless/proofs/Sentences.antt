@@ -1,18 +1,19 @@
 -- Laws of answers: their room, and what is printed of a reply. Assumes nothing.
-use mathlib.Core.Path.{◌≡◌, refl, subst}
-use mathlib.Core.Bool.{true, false}
+use mathlib.Core.Path.{◌≡◌, refl, subst, ap, ◌∙◌}
 use mathlib.Core.List.{List, [], ◌++◌}
 use Prim.Native.Nat.{ℕ, zero, suc, ◌+◌, ◌*◌, ◌≤◌}
 use native.Mathlib.Omega.{arith}
 use lib.ListN.{length, take, drop, length-append}
-use lib.Seq.{drop-cons}
+use lib.Seq.{drop-cons, take_at}
+use Rattle.std.specs.Prelude.{Ok}
+use Rattle.rules.specs.Refusal.{code}
 use Rattle.parse.specs.Line.{most_bytes}
 use Rattle.print.specs.Text.{numbers, hex_word, line_end}
 use Rattle.print.proofs.Texts.{numbers_most, hex_word_most}
 use Rattle.stateless.specs.declared.reply.Reply as short
-use Rattle.stateless.specs.declared.speak.Answered as code
-use Rattle.language.specs.Replies.{Said, say, bad, sentence}
-use Rattle.stateless.specs.Leaving.{firsts, heard, Printed, answer_bytes}
+use Rattle.stateless.specs.declared.speak.Answered as speak
+use Rattle.language.specs.Replies.{Said, say, told, sentence}
+use Rattle.stateless.specs.Leaving.{firsts, heard, Says, Printed, answer_bytes}
 
 -- a sentence of few numbers and bytes has room
 pub sentence_most : (w ns bs : List ℕ) → length (sentence w ns bs) ≤ length w + (21 * length ns + (1 + 2 * length bs + 1))
@@ -41,17 +42,21 @@ firsts_are k l h = firsts_take k 0 l (omega arith)
 
 -- ---- what is printed
 
-pub printed_as : {s t : Said} {w : List ℕ} {n : ℕ} {o o₁ : List ℕ} {k : ℕ} {r : code.Answered} → s ≡ t → Printed s w n o o₁ k r
+pub printed_as : {s t : Said} {w : List ℕ} {n : ℕ} {o o₁ : List ℕ} {k : ℕ} {r : speak.Answered} → s ≡ t → Printed s w n o o₁ k r
     → Printed t w n o o₁ k r
 printed_as {w = w} {n = n} {o = o} {o₁ = o₁} {k = k} {r = r} e p = subst (λ (x : Said). Printed x w n o o₁ k r) e p
 
-pub printed_lent : {s : Said} {w : List ℕ} {n : ℕ} {o o₁ : List ℕ} {k j : ℕ} {r : code.Answered} → k ≡ j → Printed s w n o o₁ k r
+pub printed_lent : {s : Said} {w : List ℕ} {n : ℕ} {o o₁ : List ℕ} {k j : ℕ} {r : speak.Answered} → k ≡ j → Printed s w n o o₁ k r
     → Printed s w n o o₁ j r
 printed_lent {s} {w} {n} {o} {o₁} {r = r} e p = subst (λ (x : ℕ). Printed s w n o o₁ x r) e p
 
-module _ (r : short.Reply) where
-  pub heard_bad : r.good ≡ false → bad ≡ heard r
-  heard_bad h = rw h
+pub heard_firsts : (r : short.Reply) → r.count ≤ length r.numbers → say (code r.change) (take r.count r.numbers) [] ≡ heard r
+heard_firsts r k = rw (firsts_are r.count r.numbers k)
 
-  pub heard_good : r.good ≡ true → r.count ≤ length r.numbers → say r.refusal (take r.count r.numbers) [] ≡ heard r
-  heard_good h k = rw (h, firsts_are r.count r.numbers k)
+-- numbers put at the start of a reply
+pub says_told : (n : ℕ) (ns rest : List ℕ) → length ns ≡ n → n ≤ 16 → Says (told ns) (record { change = Ok tt; count = n; numbers = ns ++ rest })
+says_told n ns rest e h =
+    record {
+      is = ap told (firsts_are n (ns ++ rest) (omega (arith, length-append ns rest)) ∙ take_at ns rest n e);
+      few = h;
+    }

@@ -1,11 +1,14 @@
 -- What the code leaves: its buffers and its answers beside the definitions.
-use Rattle.std.specs.Prelude.{ℕ, zero, suc, ◌≤◌, ◌*◌, true, List, [], ◌∷◌, ◌≡◌, get_or, replicate}
-use Rattle.rules.specs.Rules.{pick}
+use Rattle.std.specs.Prelude.{ℕ, zero, suc, ◌≤◌, ◌*◌, Bool, true, false, List, [], ◌∷◌, ◌≡◌, ⊤, get_or, replicate, Option, Some, None, Result, Ok}
+use Rattle.rules.specs.Refusal.{number, code}
+use Rattle.rules.specs.declared.refusal.Refusal.{Refusal}
 use Rattle.le.specs.Le.{le_at}
 use Rattle.print.specs.Put.{Put}
 use Rattle.language.specs.Replies.{Said, say, bad, is_good, refusal_of, texted}
 use Rattle.stateless.specs.declared.reply.Reply as short
-use Rattle.stateless.specs.declared.speak.Answered as code
+use Rattle.stateless.specs.declared.speak.Answered as speak
+use Rattle.stateless.specs.declared.speak.Verdict.{Verdict}
+use Rattle.stateless.specs.declared.speak.Verdict.TheVariants as V
 
 -- k elements from place i on
 abbrev pub firsts : ℕ → ℕ → List ℕ → List ℕ
@@ -32,23 +35,39 @@ answer_bytes = 16384
 
 -- what a short reply stands for
 abbrev pub heard : short.Reply → Said
-heard r = pick r.good (say r.refusal (firsts r.count 0 r.numbers) []) bad
+heard r = say (code r.change) (firsts r.count 0 r.numbers) []
 
--- a number and zeros behind it, so many in all: told, or that of a change
-abbrev pub told_reply : ℕ → ℕ → short.Reply
-told_reply n count = record { good = true; refusal = 0; count = count; numbers = n ∷ replicate 15 0 }
+-- and where there is none the line is a bad one
+abbrev pub heard_or_bad : Option short.Reply → Said
+heard_or_bad (Some r) = heard r
+heard_or_bad None = bad
 
-abbrev pub changed_reply : ℕ → ℕ → short.Reply
-changed_reply n count = record { good = true; refusal = n; count = count; numbers = n ∷ replicate 15 0 }
+-- the number of a refusal and zeros behind it, so many in all: told, or that of a change
+abbrev pub refusal_reply : Refusal → ℕ → short.Reply
+refusal_reply r count = record { change = Ok tt; count = count; numbers = number r ∷ replicate 15 0 }
+
+abbrev pub changed_reply : Result ⊤ Refusal → ℕ → short.Reply
+changed_reply answer count = record { change = answer; count = count; numbers = code answer ∷ replicate 15 0 }
 
 pub record Says (s : Said) (r : short.Reply) : Type 0 where
   pub is : heard r ≡ s
   pub few : r.count ≤ 16
 
+-- whether a line was good, and the number by which a change that it asked for was refused, 0 for none
+abbrev pub good_of : Verdict → Bool
+good_of V.Good = true
+good_of V.Bad = false
+good_of (V.Refused r) = true
+
+abbrev pub refused_by : Verdict → ℕ
+refused_by V.Good = 0
+refused_by V.Bad = 0
+refused_by (V.Refused r) = number r
+
 -- an answer printed at the start of a buffer, given its word and the line's number
-pub record Printed (s : Said) (word : List ℕ) (n : ℕ) (before after : List ℕ) (count : ℕ) (r : code.Answered) : Type 0 where
+pub record Printed (s : Said) (word : List ℕ) (n : ℕ) (before after : List ℕ) (count : ℕ) (r : speak.Answered) : Type 0 where
   pub text : Put before 0 (texted word n s) after r.length
-  pub good : r.good ≡ is_good s
-  pub refusal : r.refusal ≡ refusal_of s
+  pub good : good_of r.verdict ≡ is_good s
+  pub refusal : refused_by r.verdict ≡ refusal_of s
   pub lent : r.lent ≡ count
   pub short : r.length ≤ answer_bytes

@@ -3,6 +3,7 @@
 
 pub mod part;
 pub mod peek;
+mod place;
 pub mod poke;
 pub mod reply;
 pub mod speak;

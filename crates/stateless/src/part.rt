@@ -1,6 +1,6 @@
 // The commands on a part of the memory: entries written and read, the completion reader, and bytes filled in.
-ghost use Rattle.std.specs.Prelude.{◌≡◌, ◌∷◌, [], ◌≤◌, ◌<◌, length};
-ghost use Rattle.rules.specs.Refusal.{by_number};
+ghost use Rattle.std.specs.Prelude.{◌≡◌, ◌∷◌, [], ◌≤◌, ◌<◌, length, IfSome};
+ghost use Rattle.rules.specs.Refusal.{by_number, code};
 ghost use Rattle.entry.specs.Submission.{submission_answer};
 ghost use Rattle.entry.specs.Completion.{completion_answer};
 ghost use Rattle.ring.specs.Reader.{waiting_answer};
@@ -9,14 +9,15 @@ ghost use Rattle.language.specs.declared.command.OnPart.TheVariants as P;
 ghost use Rattle.language.specs.Vocabulary.{on_part_form};
 ghost use Rattle.language.specs.Replies as s;
 ghost use Rattle.language.specs.Commands.{submission_of, submission_numbers, completion_numbers, both, on_part, parts_used};
-ghost use Rattle.stateless.specs.Leaving.{Says, Narrow, firsts, heard};
+ghost use Rattle.stateless.specs.Leaving.{Says, Narrow, firsts, heard, heard_or_bad};
 
-use crate::reply::{Reply, bad, changed, told};
+use crate::place::part_of;
+use crate::reply::{Reply, changed, told, told_refusal};
 use entry::completion::Completion;
 use entry::submission::Submission;
 use language::command::OnPart;
 use language::sizes::NUMBERS;
-use rules::refusal::{Refusal, code};
+use rules::refusal::Refusal;
 
 // The entry that the numbers of a line give, behind place and room.
 fn submission_of(a: &[u64; NUMBERS]) -> Submission
@@ -45,30 +46,24 @@ fn of_submission(answer: Result<Submission, Refusal>) -> Reply
     ensures { Says (s.told (submission_numbers (submission_answer (by_number answer)))) result }
 {
     match answer {
-        Ok(e) => Reply {
-            good: true,
-            refusal: 0,
-            count: 15,
-            numbers: [
-                0,
-                e.opc as u64,
-                e.fuse,
-                e.psdt,
-                e.cid as u64,
-                e.nsid as u64,
-                e.mptr,
-                e.prp1,
-                e.prp2,
-                e.slba,
-                e.nlb as u64,
-                e.cdw12_upper as u64,
-                e.cdw13 as u64,
-                e.cdw14 as u64,
-                e.cdw15 as u64,
-                0,
-            ],
-        },
-        Err(refusal) => told(refusal.number(), 15),
+        Ok(e) => told(&[
+            0,
+            e.opc as u64,
+            e.fuse,
+            e.psdt,
+            e.cid as u64,
+            e.nsid as u64,
+            e.mptr,
+            e.prp1,
+            e.prp2,
+            e.slba,
+            e.nlb as u64,
+            e.cdw12_upper as u64,
+            e.cdw13 as u64,
+            e.cdw14 as u64,
+            e.cdw15 as u64,
+        ]),
+        Err(refusal) => told_refusal(refusal, 15),
     }
 }
 
@@ -76,30 +71,16 @@ fn of_completion(answer: Result<(Completion, u8), Refusal>) -> Reply
     ensures { Says (s.told (completion_numbers (completion_answer (by_number answer)))) result }
 {
     match answer {
-        Ok((e, phase)) => Reply {
-            good: true,
-            refusal: 0,
-            count: 7,
-            numbers: [
-                0,
-                e.result as u64,
-                e.sqhd as u64,
-                e.sqid as u64,
-                e.cid as u64,
-                e.status as u64,
-                phase as u64,
-                0,
-                0,
-                0,
-                0,
-                0,
-                0,
-                0,
-                0,
-                0,
-            ],
-        },
-        Err(refusal) => told(refusal.number(), 7),
+        Ok((e, phase)) => told(&[
+            0,
+            e.result as u64,
+            e.sqhd as u64,
+            e.sqid as u64,
+            e.cid as u64,
+            e.status as u64,
+            phase as u64,
+        ]),
+        Err(refusal) => told_refusal(refusal, 7),
     }
 }
 
@@ -107,21 +88,16 @@ fn of_waiting(answer: Result<u64, Refusal>) -> Reply
     ensures { Says (s.told (both (waiting_answer (by_number answer)))) result }
 {
     match answer {
-        Ok(n) => Reply {
-            good: true,
-            refusal: 0,
-            count: 2,
-            numbers: [0, n, 0, 0, 0, 0, 0, 0, 0, 0, 0, 0, 0, 0, 0, 0],
-        },
-        Err(refusal) => told(refusal.number(), 2),
+        Ok(n) => told(&[0, n]),
+        Err(refusal) => told_refusal(refusal, 2),
     }
 }
 
-fn write_cqe(part: &mut [u8], a: &[u64; NUMBERS]) -> u64
+fn write_cqe(part: &mut [u8], a: &[u64; NUMBERS]) -> Result<(), Refusal>
     requires { Narrow (on_part_form P.WriteCqe) 0 a.now }
-    ensures { (s.changed (result ∷ []), part.new) ≡ on_part P.WriteCqe (firsts 8 0 a.now) part.old }
+    ensures { (s.changed (code result ∷ []), part.new) ≡ on_part P.WriteCqe (firsts 8 0 a.now) part.old }
 {
-    code(entry::completion::write(
+    entry::completion::write(
         part,
         a[2] as u32,
         a[3] as u16,
@@ -129,7 +105,7 @@ fn write_cqe(part: &mut [u8], a: &[u64; NUMBERS]) -> u64
         a[5] as u16,
         a[6],
         a[7],
-    ))
+    )
 }
 
 fn on_part(part: &mut [u8], k: OnPart, a: &[u64; NUMBERS]) -> Reply
@@ -140,9 +116,9 @@ fn on_part(part: &mut [u8], k: OnPart, a: &[u64; NUMBERS]) -> Reply
     match k {
         OnPart::Fill => {
             part.fill(a[2] as u8);
-            told(part.len() as u64, 1)
+            told(&[part.len() as u64])
         }
-        OnPart::WriteSqe => changed(code(entry::submission::write(part, submission_of(a))), 1),
+        OnPart::WriteSqe => changed(entry::submission::write(part, submission_of(a)), 1),
         OnPart::ReadSqe => of_submission(entry::submission::read(part)),
         OnPart::WriteCqe => changed(write_cqe(part, a), 1),
         OnPart::ReadCqe => of_completion(entry::completion::read(part)),
@@ -150,22 +126,12 @@ fn on_part(part: &mut [u8], k: OnPart, a: &[u64; NUMBERS]) -> Reply
     }
 }
 
-// A command whose first two numbers are the place and the room of a part of the memory.
-pub fn in_memory(memory: &mut [u8], k: OnPart, a: &[u64; NUMBERS]) -> Reply
+// A command whose first two numbers are the place and the room of a part of the memory; None where the line is a bad one.
+pub fn in_memory(memory: &mut [u8], k: OnPart, a: &[u64; NUMBERS]) -> Option<Reply>
     requires { Narrow (on_part_form k) 0 a.now }
-    ensures { ((c : Controller) → s.reply (heard result) c memory.new
-        ≡ parts_used c memory.old k (firsts (length (on_part_form k)) 0 a.now)) × (result.count ≤ 16) }
+    ensures { ((c : Controller) → s.reply (heard_or_bad result) c memory.new
+        ≡ parts_used c memory.old k (firsts (length (on_part_form k)) 0 a.now)) × IfSome result (λ r. r.count ≤ 16) }
 {
-    let n = memory.len() as u64;
-    let place = a[0];
-    let room = a[1];
-    if n < place {
-        return bad();
-    }
-    if n - place < room {
-        return bad();
-    }
-    let from = place as usize;
-    let to = from + room as usize;
-    on_part(&mut memory[from..to], k, a)
+    let (from, to) = part_of(memory, a[0], a[1])?;
+    Some(on_part(&mut memory[from..to], k, a))
 }

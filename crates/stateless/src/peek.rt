@@ -6,6 +6,7 @@ ghost use Rattle.language.specs.Vocabulary.{form};
 ghost use Rattle.language.specs.Commands.{peeked};
 ghost use Rattle.stateless.specs.Leaving.{Narrow, Printed, answer_bytes};
 
+use crate::place::part_of;
 use crate::speak::{Answered, say, say_bad};
 use language::sizes::NUMBERS;
 
@@ -15,17 +16,8 @@ pub fn peek(memory: &[u8], a: &[u64; NUMBERS], word: &[u8], number: u64, out: &m
     ensures { Printed (peeked memory.now (get_or a.now 0 0) (get_or a.now 1 0))
         word.now number out.old out.new (length memory.now) result }
 {
-    let n = memory.len() as u64;
-    let place = a[0];
-    let count = a[1];
-    if n < place {
+    let Some((from, to)) = part_of(memory, a[0], a[1]) else {
         return say_bad(out, number, memory.len());
-    }
-    if n - place < count {
-        return say_bad(out, number, memory.len());
-    }
-    let from = place as usize;
-    let to = from + count as usize;
-    let none = [0u64; 1];
-    say(out, word, 0, &none[..0], &memory[from..to], memory.len())
+    };
+    say(out, word, Ok(()), &[], &memory[from..to], memory.len())
 }

@@ -1,52 +1,53 @@
 // What a command says behind its word, where that is a few numbers.
-ghost use Rattle.std.specs.Prelude.{◌∷◌, [], ◌≡◌, ◌≤◌};
+ghost use Rattle.std.specs.Prelude.{◌≡◌, min, take, length};
 ghost use Rattle.language.specs.Replies as s;
-ghost use Rattle.stateless.specs.Leaving.{Says, changed_reply, told_reply};
+ghost use Rattle.stateless.specs.Leaving.{Says, changed_reply, refusal_reply};
 
-// The first `count` of the numbers, and the number by which a change that was asked for was refused, 0 for none; or, where it is not good,
-// that the line is a bad one.
+use rules::refusal::{Refusal, code};
+
+// The first `count` of the numbers, and the answer of the change that was asked for: `Ok` too where none was.
 #[derive(Clone, Copy)]
 pub struct Reply {
-    pub good: bool,
-    pub refusal: u64,
+    pub change: Result<(), Refusal>,
     pub count: usize,
     pub numbers: [u64; 16],
 }
 
-pub fn bad() -> Reply
-    ensures { Says s.bad result }
-{
-    Reply {
-        good: false,
-        refusal: 0,
-        count: 0,
-        numbers: [0; 16],
-    }
-}
-
-// The refusal of a change, 0 for none, and zeros behind it that make so many numbers.
-pub fn changed(refusal: u64, count: usize) -> Reply
-    ensures { result ≡ changed_reply refusal count }
+// The number of a change's refusal, 0 for none, and zeros behind it that make so many numbers.
+pub fn changed(answer: Result<(), Refusal>, count: usize) -> Reply
+    ensures { result ≡ changed_reply answer count }
 {
     let mut numbers = [0u64; 16];
-    numbers[0] = refusal;
+    numbers[0] = code(answer);
     Reply {
-        good: true,
-        refusal,
+        change: answer,
         count,
         numbers,
     }
 }
 
-// A number, and zeros behind it that make so many numbers.
-pub fn told(n: u64, count: usize) -> Reply
-    ensures { result ≡ told_reply n count }
+// The number of a refusal by which no change was refused, and zeros behind it that make so many numbers.
+pub fn told_refusal(refusal: Refusal, count: usize) -> Reply
+    ensures { result ≡ refusal_reply refusal count }
 {
     let mut numbers = [0u64; 16];
-    numbers[0] = n;
+    numbers[0] = refusal.number();
     Reply {
-        good: true,
-        refusal: 0,
+        change: Ok(()),
+        count,
+        numbers,
+    }
+}
+
+// Numbers, as they are; of more than 16 the first 16.
+pub fn told(said: &[u64]) -> Reply
+    ensures { Says (s.told (take (min (length said.now) 16) said.now)) result }
+{
+    let mut numbers = [0u64; 16];
+    let count = said.len().min(16);
+    numbers[..count].copy_from_slice(&said[..count]);
+    Reply {
+        change: Ok(()),
         count,
         numbers,
     }

@@ -1,21 +1,41 @@
 // Answers, printed at the start of a buffer once it is known what they are.
-ghost use Rattle.std.specs.Prelude.{List, [], ℕ, ◌≤◌, ◌+◌, length};
+ghost use Rattle.std.specs.Prelude.{List, [], ℕ, true, ◌≡◌, ◌≤◌, ◌+◌, length};
+ghost use Rattle.rules.specs.Refusal.{code};
 ghost use Rattle.parse.specs.Line.{most_bytes};
 ghost use Rattle.print.specs.Put.{Put};
 ghost use Rattle.language.specs.Replies as s;
-ghost use Rattle.stateless.specs.Leaving.{heard, Printed, answer_bytes};
+ghost use Rattle.stateless.specs.Leaving.{heard, good_of, refused_by, Printed, answer_bytes};
 
 use crate::reply::Reply;
 use print::{put, put_bad, put_end, put_hex_word, put_numbers};
+use rules::refusal::Refusal;
 
-// The length of an answer, 0 where there is none, and how many bytes of the memory are lent afterwards; whether the line was good, and the
-// number by which a change that it asked for, of the controller or of an entry, was refused: 0 for none.
+// What came of a line: it was good; it was bad; or a change that it asked for, of the controller or of an entry, was refused.
+#[derive(Clone, Copy)]
+pub enum Verdict {
+    Good,
+    Bad,
+    Refused(Refusal),
+}
+
+impl Verdict {
+    // Of a line that is no bad one, by the answer of the change that it asked for.
+    fn of(change: Result<(), Refusal>) -> Verdict
+        ensures { (good_of result ≡ true) × (refused_by result ≡ code change) }
+    {
+        match change {
+            Ok(()) => Verdict::Good,
+            Err(refusal) => Verdict::Refused(refusal),
+        }
+    }
+}
+
+// The length of an answer, 0 where there is none, how many bytes of the memory are lent afterwards, and what came of the line.
 #[derive(Clone, Copy)]
 pub struct Answered {
     pub length: usize,
     pub lent: usize,
-    pub good: bool,
-    pub refusal: u64,
+    pub verdict: Verdict,
 }
 
 fn put_sentence(out: &mut [u8], word: &[u8], numbers: &[u64], bytes: &[u8]) -> usize
@@ -33,20 +53,19 @@ fn put_sentence(out: &mut [u8], word: &[u8], numbers: &[u64], bytes: &[u8]) -> u
 pub fn say(
     out: &mut [u8],
     word: &[u8],
-    refusal: u64,
+    change: Result<(), Refusal>,
     numbers: &[u64],
     bytes: &[u8],
     lent: usize,
 ) -> Answered
     requires { (length (s.sentence word.now numbers.now bytes.now) ≤ answer_bytes) × (answer_bytes ≤ length out.old) }
-    ensures { (n : ℕ) → Printed (s.say refusal numbers.now bytes.now) word.now n
+    ensures { (n : ℕ) → Printed (s.say (code change) numbers.now bytes.now) word.now n
         out.old out.new lent result }
 {
     Answered {
         length: put_sentence(out, word, numbers, bytes),
         lent,
-        good: true,
-        refusal,
+        verdict: Verdict::of(change),
     }
 }
 
@@ -58,20 +77,16 @@ pub fn say_bad(out: &mut [u8], number: u64, lent: usize) -> Answered
     Answered {
         length: put_bad(out, 0, number),
         lent,
-        good: false,
-        refusal: 0,
+        verdict: Verdict::Bad,
     }
 }
 
 // A short reply.
-pub fn say_reply(out: &mut [u8], word: &[u8], number: u64, reply: Reply, lent: usize) -> Answered
+pub fn say_reply(out: &mut [u8], word: &[u8], reply: Reply, lent: usize) -> Answered
     requires { (reply.count ≤ 16) × (length word.now ≤ most_bytes) × (answer_bytes ≤ length out.old) }
-    ensures { Printed (heard reply) word.now number out.old out.new lent result }
+    ensures { (n : ℕ) → Printed (heard reply) word.now n out.old out.new lent result }
 {
-    if !reply.good {
-        return say_bad(out, number, lent);
-    }
     let numbers = reply.numbers;
     let count = reply.count;
-    say(out, word, reply.refusal, &numbers[..count], b"", lent)
+    say(out, word, reply.change, &numbers[..count], b"", lent)
 }

@@ -33,8 +33,8 @@ fn put_pages(numbers: &mut [u64], at: usize, addresses: &[u8], counts: &[u8], pa
 {
     let mut to = at;
     for i in 0..pages {
-        numbers[to] = le::get64(addresses, 8 * i);
-        numbers[to + 1] = le::get32(counts, 4 * i);
+        numbers[to] = le::get::<8>(addresses, 8 * i);
+        numbers[to + 1] = le::get::<4>(counts, 4 * i);
         to += 2;
     }
     to

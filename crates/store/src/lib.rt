@@ -1,5 +1,6 @@
 // A controller in WORDS numbers that the caller lends: one field after another, each for every queue or every tag. Where they stand
-// is used in this crate alone; the calls use its getters and setters.
+// is used in this crate alone; the calls use its getters and setters. These take ids, tags and words as they are, and each caller shows
+// that they are low and sound: docs/MAP.md names them, so they may not take narrower types.
 #![tactic(auto)]
 
 ghost use Rattle.rules.specs.Refusal.{code};

@@ -58,14 +58,14 @@ fn has_spare(trace: &[u8], at: usize, kind: Kind) -> bool
     requires { at + 16 ≤ length trace.now }
     ensures { result ≡ any_set (drop (first_spare kind) (part trace.now at 16)) }
 {
-    if le::get32(trace, at + 4) != 0 {
+    if le::get::<4>(trace, at + 4) != 0 {
         return true;
     }
-    if le::get64(trace, at + 8) != 0 {
+    if le::get::<8>(trace, at + 8) != 0 {
         return true;
     }
     match kind {
-        Kind::Start => le::get8(trace, at + 1) != 0 || le::get16(trace, at + 2) != 0,
+        Kind::Start => le::get::<1>(trace, at + 1) != 0 || le::get::<2>(trace, at + 2) != 0,
         Kind::TailWrite | Kind::HeadWrite | Kind::Finish => false,
     }
 }
@@ -75,14 +75,14 @@ fn whole_at(trace: &[u8], at: usize) -> Result<Record, Refusal>
     requires { at + 16 ≤ length trace.now }
     ensures { by_number result ≡ record_in (part trace.now at 16) }
 {
-    let Some(kind) = Kind::of_byte(le::get8(trace, at)) else {
+    let Some(kind) = Kind::of_byte(le::get::<1>(trace, at)) else {
         return Err(Refusal::BadRecord);
     };
     if has_spare(trace, at, kind) {
         return Err(Refusal::BadRecord);
     }
-    let target = le::get8(trace, at + 1) as u8;
-    let value = le::get16(trace, at + 2) as u16;
+    let target = le::get::<1>(trace, at + 1) as u8;
+    let value = le::get::<2>(trace, at + 2) as u16;
     Ok(match kind {
         Kind::TailWrite => Record::TailWrite(target, value),
         Kind::HeadWrite => Record::HeadWrite(target, value),

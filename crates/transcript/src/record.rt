@@ -65,10 +65,10 @@ fn put_wrong(out: &mut [u8], at: usize, bytes: &[u8]) -> usize
     requires { Wrong bytes.now × (at + length (wrong_text bytes.now) ≤ length out.old) }
     ensures { Put out.old at (wrong_text bytes.now) out.new result }
 {
-    let call = le::get8(bytes, 0);
+    let call = le::get::<1>(bytes, 0);
     let i = wrong_byte(bytes, call);
     let to = put_name(out, at, call);
-    put_pair(out, to, b"byte", i as u64, b" is", le::get8(bytes, i))
+    put_pair(out, to, b"byte", i as u64, b" is", le::get::<1>(bytes, i))
 }
 
 // What is there of a short record.
@@ -136,9 +136,9 @@ fn put_answer(out: &mut [u8], at: usize, answer: &[u8]) -> usize
     requires { (4 ≤ length answer.now) × (at + length (answer_text answer.now) ≤ length out.old) }
     ensures { Put out.old at (answer_text answer.now) out.new result }
 {
-    let refusal = le::get8(answer, 1);
+    let refusal = le::get::<1>(answer, 1);
     if refusal == 0 {
-        return put_done(out, at, le::get8(answer, 0), le::get16(answer, 2));
+        return put_done(out, at, le::get::<1>(answer, 0), le::get::<2>(answer, 2));
     }
     put_refused(out, at, refusal)
 }

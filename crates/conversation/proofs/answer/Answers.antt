@@ -45,4 +45,3 @@ returns c =
     let e : c.put_line-to.result + c.indent.result ≡ c.put_line-to.result + length (mark c.args.form) =
     ap (λ (k : ℕ). c.put_line-to.result + k) c.indent.ensures in
     shows c.args.form c.args.line.now _ c.put_line-to.ensures e c.requires.line_in_bounds c.answer-answered.ensures c.put_aside.ensures
-    c.verdict_of.ensures

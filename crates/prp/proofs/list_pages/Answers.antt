@@ -48,22 +48,22 @@ overflow_add-reads c =
 pub pages-smaller : goal.pages-smaller
 pages-smaller c =
     let d =
-    read (page_size c.args.page.number) c.args.memory.now _ c.in_memory.ensures c.if-not-in_memory.false c.get64-entry.ensures.0
+    read (page_size c.args.page.number) c.args.memory.now _ c.in_memory.ensures c.if-not-in_memory.false c.get-entry.ensures.0
     c.offset.ensures.0 c.if-offset-ne0.false in
     (follow c.entries.invariant.0 d c.entries.invariant.1 (le_of_eq c.if-more-eq1.true) c.if-left-eq1.false).1
 
 pub pages-preserved : goal.pages-preserved
 pages-preserved c =
     let d =
-    read (page_size c.args.page.number) c.args.memory.now _ c.in_memory.ensures c.if-not-in_memory.false c.get64-entry.ensures.0
+    read (page_size c.args.page.number) c.args.memory.now _ c.in_memory.ensures c.if-not-in_memory.false c.get-entry.ensures.0
     c.offset.ensures.0 c.if-offset-ne0.false in
     let t = follow c.entries.invariant.0 d c.entries.invariant.1 (le_of_eq c.if-more-eq1.true) c.if-left-eq1.false in
-    (t.0, omega (arith, d.aligned, page_eight c.args.page.number c.get64-entry.result))
+    (t.0, omega (arith, d.aligned, page_eight c.args.page.number c.get-entry.result))
 
 pub entries-preserved : goal.entries-preserved
 entries-preserved c =
     let d =
-    read (page_size c.args.page.number) c.args.memory.now _ c.in_memory.ensures c.if-not-in_memory.false c.get64-entry.ensures.0
+    read (page_size c.args.page.number) c.args.memory.now _ c.in_memory.ensures c.if-not-in_memory.false c.get-entry.ensures.0
     c.offset.ensures.0 c.if-offset-ne0.false in
     next c.entries.invariant.0 d c.entries.invariant.1 c.if-more-eq1.false
 
@@ -78,21 +78,21 @@ returns-then-offset-ne0 c =
     let t = c.entries.invariant.0 in
     let lies = inside _ _ c.in_memory.ensures c.if-not-in_memory.false in
     let d = c.offset.ensures.0 in
-    rw (not_aligned t lies (λ h. c.if-offset-ne0.true (d ∙ rw c.get64-entry.ensures.0 h))) refl
+    rw (not_aligned t lies (λ h. c.if-offset-ne0.true (d ∙ rw c.get-entry.ensures.0 h))) refl
 
 pub returns-then-left-eq1 : goal.returns-then-left-eq1
 unfolding counted
 returns-then-left-eq1 c =
     let d =
-    read (page_size c.args.page.number) c.args.memory.now _ c.in_memory.ensures c.if-not-in_memory.false c.get64-entry.ensures.0
+    read (page_size c.args.page.number) c.args.memory.now _ c.in_memory.ensures c.if-not-in_memory.false c.get-entry.ensures.0
     c.offset.ensures.0 c.if-offset-ne0.false in
     let t = c.entries.invariant.0 in
-    let all = t.done ++ (c.get64-entry.result ∷ []) in
+    let all = t.done ++ (c.get-entry.result ∷ []) in
     let many : 1 + length all ≡ c.args.count + 1 = simp length-append (omega (arith, t.many)) in
     rw (last t d (page_low c.args.page.number) c.if-left-eq1.true, many, zero-add) refl
 
-pub get64-entry-requires : goal.get64-entry-requires
-get64-entry-requires c =
+pub get-entry-requires-clause-room : goal.get-entry-requires-clause-room
+get-entry-requires-clause-room c =
     inside _ _ c.in_memory.ensures c.if-not-in_memory.false
 
 pub overflow_add-at : goal.overflow_add-at

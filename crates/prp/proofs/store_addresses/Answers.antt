@@ -65,15 +65,15 @@ returns-then-count-eq1 c =
     let a = c.args in
     let p = c.requires.room in
     let one = one_page a.page.number a.memory.now a.prp1 a.prp2 a.count c.requires.found c.if-count-eq1.true in
-    stored a.page.number a.memory.now a.prp1 a.prp2 a.count c.requires.found a.addresses.now p.0 p.1.0 p.1.1 one c.put64.ensures refl
+    stored a.page.number a.memory.now a.prp1 a.prp2 a.count c.requires.found a.addresses.now p.0 p.1.0 p.1.1 one c.put.ensures refl
 
 pub returns-then-count-eq2 : goal.returns-then-count-eq2
 returns-then-count-eq2 c =
     let a = c.args in
     let p = c.requires.room in
     let two = two_pages a.page.number a.memory.now a.prp1 a.prp2 a.count c.requires.found c.if-count-eq2.true in
-    stored a.page.number a.memory.now a.prp1 a.prp2 a.count c.requires.found a.addresses.now p.0 p.1.0 p.1.1 two c.put64.ensures
-    (c.put64-then-count-eq2.ensures ∙ ap (sets _ 8) (numbers_one 8 a.prp2))
+    stored a.page.number a.memory.now a.prp1 a.prp2 a.count c.requires.found a.addresses.now p.0 p.1.0 p.1.1 two c.put.ensures
+    (c.put-then-count-eq2.ensures ∙ ap (sets _ 8) (numbers_one 8 a.prp2))
 
 pub store_list-requires : goal.store_list-requires
 store_list-requires c =
@@ -87,4 +87,4 @@ returns c =
     let p = c.requires.room in
     let g = list_good a.page.number a.memory.now a.prp1 a.prp2 a.count c.requires.found c.if-count-eq1.false c.if-count-eq2.false in
     stored a.page.number a.memory.now a.prp1 a.prp2 a.count c.requires.found a.addresses.now p.0 p.1.0 p.1.1 g.1.1
-    c.put64.ensures c.store_list.ensures
+    c.put.ensures c.store_list.ensures

@@ -52,7 +52,7 @@ loop-i-preserved c =
     let full : c.loop-i.room < c.loop-i.left = ends_full (search rules) t.1.1.1 in
     let s = stored (page_size a.page.number) a.prp1 a.len a.count _ _ _ _ _ c.loop-i.room t.1.0 t.1.1.0 (search rules) (omega (arith, full)) in
     let ends = ends_next (a.count - 1 - suc c.loop-i.i) (omega arith) t.1.1.1 in
-    rw (add-one, c.size-room.ensures.0) (omega arith, (c.put32.ensures ∙ s.0, (s.1, ends)))
+    rw (add-one, c.size-room.ensures.0) (omega arith, (c.put.ensures ∙ s.0, (s.1, ends)))
 
 pub returns : goal.returns
 returns c =
@@ -65,4 +65,4 @@ returns c =
     let done : suc c.loop-i.i ≡ a.count = omega arith in
     let s = (stored (page_size a.page.number) a.prp1 a.len a.count _ _ _ _ _ c.loop-i.left t.1.0 t.1.1.0 (omega arith) (omega (arith, rest))).0 in
     let whole = take_all a.count each (omega (arith, sized)) in
-    c.put32-2.ensures ∙ rw at_last (rw (done, whole) at s) ∙ numbers_put 4 _ each (rw sized c.requires.count_value.1)
+    c.put-2.ensures ∙ rw at_last (rw (done, whole) at s) ∙ numbers_put 4 _ each (rw sized c.requires.count_value.1)

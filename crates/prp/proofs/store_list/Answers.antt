@@ -72,8 +72,8 @@ loop-more-init c =
     (again c.loop-addresses.invariant.0, begin_run _ (page_low c.args.page.number) c.entries_from.ensures c.min-more.ensures)
 
 -- the entry that is read lies in memory
-pub get64-requires : goal.get64-requires
-get64-requires c = (read c.loop-more.invariant.0 refl).inside
+pub get-requires-clause-room : goal.get-requires-clause-room
+get-requires-clause-room c = (read c.loop-more.invariant.0 refl).inside
 
 pub overflow_add-at : goal.overflow_add-at
 overflow_add-at c = omega (arith, (read c.loop-more.invariant.0 refl).inside)
@@ -81,24 +81,24 @@ overflow_add-at c = omega (arith, (read c.loop-more.invariant.0 refl).inside)
 pub loop-more-preserved : goal.loop-more-preserved
 loop-more-preserved c =
     let t = c.loop-more.invariant in
-    rw c.put64.ensures (next t.0 c.get64.ensures.0 t.1 (λ h. omega arith))
+    rw c.put.ensures (next t.0 c.get.ensures.0 t.1 (λ h. omega arith))
 
-pub get64-entry-requires : goal.get64-entry-requires
-get64-entry-requires c = (read c.loop-more.invariant.0 refl).inside
+pub get-entry-requires-clause-room : goal.get-entry-requires-clause-room
+get-entry-requires-clause-room c = (read c.loop-more.invariant.0 refl).inside
 
 pub returns-then-left-eq1 : goal.returns-then-left-eq1
 returns-then-left-eq1 c =
     let t = copy c.loop-more.invariant.0 c.loop-addresses.invariant.0 in
-    c.put64-then-left-eq1.ensures ∙ last t c.get64-entry.ensures.0 (page_low c.args.page.number) c.if-left-eq1.true
+    c.put-then-left-eq1.ensures ∙ last t c.get-entry.ensures.0 (page_low c.args.page.number) c.if-left-eq1.true
 
 pub loop-addresses-smaller : goal.loop-addresses-smaller
 loop-addresses-smaller c =
     let t = copy c.loop-more.invariant.0 c.loop-addresses.invariant.0 in
-    (followed t c.get64-entry.ensures.0 c.loop-more.invariant.1 c.loop-more-test.false c.if-left-eq1.false).1
+    (followed t c.get-entry.ensures.0 c.loop-more.invariant.1 c.loop-more-test.false c.if-left-eq1.false).1
 
 pub loop-addresses-preserved : goal.loop-addresses-preserved
 loop-addresses-preserved c =
     let t = copy c.loop-more.invariant.0 c.loop-addresses.invariant.0 in
-    let f = followed t c.get64-entry.ensures.0 c.loop-more.invariant.1 c.loop-more-test.false c.if-left-eq1.false in
-    let d = read t c.get64-entry.ensures.0 in
-    (f.0, omega (arith, d.aligned, page_eight c.args.page.number c.get64-entry.result))
+    let f = followed t c.get-entry.ensures.0 c.loop-more.invariant.1 c.loop-more-test.false c.if-left-eq1.false in
+    let d = read t c.get-entry.ensures.0 in
+    (f.0, omega (arith, d.aligned, page_eight c.args.page.number c.get-entry.result))

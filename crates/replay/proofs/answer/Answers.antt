@@ -7,5 +7,5 @@ returns c =
     let e = c.execute-a.ensures in
     record {
       reached = e.reached;
-      fact = recorded _ _ _ _ _ c.requires.1 c.read.ensures.value e.memory_after c.get8.ensures.0 c.put_answer.ensures;
+      fact = recorded _ _ _ _ _ c.requires.1 c.read.ensures.value e.memory_after c.get.ensures.0 c.put_answer.ensures;
     }

@@ -5,7 +5,7 @@ use Rattle.replay.proofs.put_answer.Goals.{in-Ok, in-Err}
 
 pub returns : goal.returns
 returns c =
-    rw (c.put64.ensures, c.put32.ensures, c.put16.ensures, c.put8-2.ensures, c.put8.ensures)
+    rw (c.put-5.ensures, c.put-4.ensures, c.put-3.ensures, c.put-2.ensures, c.put.ensures)
     (elim c.match-answer.branch [
       | in-Ok w ↦ rw (w.in-Ok.is, w.refusal-is) (joined _ _ _ _ _ c.requires)
       | in-Err w ↦ rw (w.in-Err.is, w.refusal-is, w.number.ensures) (joined _ _ _ _ _ c.requires)

@@ -4,7 +4,6 @@ use Prim.Native.Nat.{◌≤◌, ◌-◌}
 use native.Mathlib.Omega.{arith}
 use borrow.Author.Rules.{rules}
 use lib.ListN.{length, take, drop, length-drop}
-use lib.Seq.{length-take-le}
 use Rattle.store.specs.Held.{held}
 use Rattle.parse.specs.Line.{words_of}
 use Rattle.parse.proofs.Lines.{words_most, word_most}
@@ -16,16 +15,9 @@ use Rattle.stateless.specs.Leaving.{numbers_most}
 use Rattle.shell.proofs.Given.{numbers_are, bytes_are, bytes_inside, fitting}
 use Rattle.shell.proofs.Answers.{no_command, bad_arguments, good_arguments, leaves_as, spoke_leaves, bad_leaves}
 use Rattle.shell.proofs.execute.Goals as goal
-use Rattle.shell.proofs.execute.Goals.{After-form_of-form, Start}
+use Rattle.shell.proofs.execute.Goals.{Start}
 
--- the table's length is known
-largest-fits :
-    (c : After-form_of-form) → c.form_of-form.result.count ≤ length c.form_of-form.result.largest
-largest-fits c =
-    let h : length c.form_of-form.result.largest ≡ 16 = search rules in
-    omega (arith, h, c.form_of-form.ensures.few)
-
--- so is that of the numbers
+-- how many numbers there is room for is known
 numbers-long :
     (s : Start) → length s.args.numbers.now ≡ numbers_most
 numbers-long s =
@@ -58,27 +50,13 @@ returns-in_default c =
     (bad_leaves a.state.now a.memory.now a.lent c.requires.ready.0.reached c.requires.ready.0.inside w a.number
     (c.say_bad.ensures w))
 
-pub slice_bounds-largest-end : goal.slice_bounds-largest-end
-slice_bounds-largest-end c =
-    largest-fits (goal.at.slice_bounds-largest-end c).After-form_of-form
-
-pub slice_bounds-read-end : goal.slice_bounds-read-end
-slice_bounds-read-end c =
-    sym (length-take-le _ _ (largest-fits (goal.at.slice_bounds-read-end c).After-form_of-form))
-
 pub read-requires : goal.read-requires
-read-requires c =
-    let f = largest-fits (goal.at.read-requires c).After-form_of-form in (
-      c.requires.start_le_end.1,
-      omega (
-        arith,
-        length-take-le c.form_of-form.result.count c.form_of-form.result.largest f,
-        c.form_of-form.ensures.few,
-        numbers-long (goal.at.read-requires c).Start,
-      ),
-      omega (arith, c.requires.ready.0.short, numbers-long (goal.at.read-requires c).Start),
-      omega (arith, c.requires.ready.0.short, c.requires.ready.1.first),
-    )
+read-requires c = (
+  c.requires.start_le_end.1,
+  omega (arith, c.form_of-form.ensures.few, numbers-long (goal.at.read-requires c).Start),
+  omega (arith, c.requires.ready.0.short, numbers-long (goal.at.read-requires c).Start),
+  omega (arith, c.requires.ready.0.short, c.requires.ready.1.first),
+)
 
 pub say_bad-requires-in_default-read : goal.say_bad-requires-in_default-read
 say_bad-requires-in_default-read c =

@@ -4,27 +4,27 @@ use Rattle.trace.proofs.whole_at.Goals as goal
 
 pub returns-in_default : goal.returns-in_default
 returns-in_default c =
-    unknown_at _ _ c.requires c.get8.ensures.0 c.in_default.ensures
+    unknown_at _ _ c.requires c.get.ensures.0 c.in_default.ensures
 
 pub returns-then-has_spare : goal.returns-then-has_spare
 returns-then-has_spare c =
-    spare_at _ _ c.requires c.get8.ensures.0 c.in-Some.ensures c.has_spare.ensures c.if-has_spare.true
+    spare_at _ _ c.requires c.get.ensures.0 c.in-Some.ensures c.has_spare.ensures c.if-has_spare.true
 
 pub returns-in-TailWrite : goal.returns-in-TailWrite
 returns-in-TailWrite c =
-    tail_at _ _ c.requires c.get8.ensures.0 c.in-Some.ensures c.has_spare.ensures c.if-has_spare.false
-    c.get8-target.ensures.0 c.get16-value.ensures.0 c.in-TailWrite.is
+    tail_at _ _ c.requires c.get.ensures.0 c.in-Some.ensures c.has_spare.ensures c.if-has_spare.false
+    c.get-target.ensures.0 c.get-value.ensures.0 c.in-TailWrite.is
 
 pub returns-in-HeadWrite : goal.returns-in-HeadWrite
 returns-in-HeadWrite c =
-    head_at _ _ c.requires c.get8.ensures.0 c.in-Some.ensures c.has_spare.ensures c.if-has_spare.false
-    c.get8-target.ensures.0 c.get16-value.ensures.0 c.in-HeadWrite.is
+    head_at _ _ c.requires c.get.ensures.0 c.in-Some.ensures c.has_spare.ensures c.if-has_spare.false
+    c.get-target.ensures.0 c.get-value.ensures.0 c.in-HeadWrite.is
 
 pub returns-in-Start : goal.returns-in-Start
 returns-in-Start c =
-    start_at _ _ c.requires c.get8.ensures.0 c.in-Some.ensures c.has_spare.ensures c.if-has_spare.false c.in-Start.is
+    start_at _ _ c.requires c.get.ensures.0 c.in-Some.ensures c.has_spare.ensures c.if-has_spare.false c.in-Start.is
 
 pub returns-in-Finish : goal.returns-in-Finish
 returns-in-Finish c =
-    finish_at _ _ c.requires c.get8.ensures.0 c.in-Some.ensures c.has_spare.ensures c.if-has_spare.false
-    c.get8-target.ensures.0 c.get16-value.ensures.0 c.in-Finish.is
+    finish_at _ _ c.requires c.get.ensures.0 c.in-Some.ensures c.has_spare.ensures c.if-has_spare.false
+    c.get-target.ensures.0 c.get-value.ensures.0 c.in-Finish.is

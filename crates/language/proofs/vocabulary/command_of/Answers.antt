@@ -1,10 +1,20 @@
--- `command_of` meets its contract. Assumes nothing.
-use mathlib.Core.Path.{refl}
-use Rattle.language.specs.Vocabulary.{vocabulary}
-use Rattle.language.specs.Words.{joined}
+-- The command is among the rows that are left. Assumes nothing.
+use Rattle.std.proofs.Common.{refl, sym, ◌∙◌, arith}
+use Rattle.language.specs.Vocabulary.{vocabulary, among, named}
+use Rattle.language.proofs.Rows.{row_found, row_passed, none_left}
 use Rattle.language.proofs.vocabulary.command_of.Goals as goal
 
-pub find-requires : goal.find-requires
-unfolding joined vocabulary
-find-requires c =
-    refl
+pub loop-row-init : goal.loop-row-init
+unfolding named among vocabulary
+loop-row-init c = record { many = refl; finds = refl }
+
+pub returns-then-is_same : goal.returns-then-is_same
+returns-then-is_same c =
+    row_found c.loop-row.invariant c.loop-row-test.true (rw c.as_bytes.ensures.value at (sym c.is_same.ensures ∙ c.if-is_same.true))
+
+pub loop-row-preserved : goal.loop-row-preserved
+loop-row-preserved c =
+    row_passed c.loop-row.invariant c.loop-row-test.true (rw c.as_bytes.ensures.value at (sym c.is_same.ensures ∙ c.if-is_same.false))
+
+pub returns : goal.returns
+returns c = none_left c.loop-row.invariant (omega arith)

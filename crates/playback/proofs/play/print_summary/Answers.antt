@@ -8,7 +8,7 @@ put_summary-n-requires g c =
     let h : length c.args.tally.numbers ≡ 36 = search rules in
     omega (arith, summary_most c.args.tally h)
 
-pub is_written-requires : goal.is_written-requires
-is_written-requires g c =
+pub shared_ref_as_front-is_written : goal.shared_ref_as_front-is_written
+shared_ref_as_front-is_written g c =
     let h : length c.args.tally.numbers ≡ 36 = search rules in
     omega (arith, c.put_summary-n.ensures.ends, summary_most c.args.tally h)

@@ -7,9 +7,9 @@ returns c =
     rw (
       c.from.ensures,
       bit_is,
-      c.number_of.ensures,
-      c.number_of-2.ensures,
-      c.number_of-3.ensures,
-      c.number_of-4.ensures,
+      c.number.ensures,
+      c.number-2.ensures,
+      c.number-3.ensures,
+      c.number-4.ensures,
       c.arbiter_of-a.ensures,
     )

@@ -1,6 +1,4 @@
 -- `look` meets its contract. Assumes nothing.
-use mathlib.Core.Path.{refl}
-use native.Mathlib.Omega.{arith}
 use Rattle.language.specs.Commands.{looked}
 use Rattle.stateful.proofs.look.look.Goals as goal
 
@@ -19,22 +17,12 @@ show_tag-requires c =
 pub returns-in-CheckTail : goal.returns-in-CheckTail
 unfolding looked
 returns-in-CheckTail c =
-    rw (
-      c.in-CheckTail.is,
-      c.told.ensures,
-      c.code.ensures,
-      ← c.check_tail.ensures,
-    ) (record { is = refl; few = omega arith })
+    rw c.in-CheckTail.is (rw (c.code.ensures, c.check_tail.ensures) at c.told.ensures)
 
 pub returns-in-CheckHead : goal.returns-in-CheckHead
 unfolding looked
 returns-in-CheckHead c =
-    rw (
-      c.in-CheckHead.is,
-      c.told-in-CheckHead.ensures,
-      c.code-in-CheckHead.ensures,
-      ← c.check_head.ensures,
-    ) (record { is = refl; few = omega arith })
+    rw c.in-CheckHead.is (rw (c.code-in-CheckHead.ensures, c.check_head.ensures) at c.told-in-CheckHead.ensures)
 
 pub returns-in-ShowSq : goal.returns-in-ShowSq
 returns-in-ShowSq c =

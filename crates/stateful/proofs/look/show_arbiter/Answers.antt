@@ -1,5 +1,4 @@
 -- `show_arbiter` meets its contract. Assumes nothing.
-use native.Mathlib.Omega.{arith}
 use Rattle.language.specs.Commands.{looked}
 use Rattle.stateful.proofs.Made.{bit_is}
 use Rattle.stateful.proofs.look.show_arbiter.Goals as goal
@@ -7,15 +6,12 @@ use Rattle.stateful.proofs.look.show_arbiter.Goals as goal
 pub returns : goal.returns
 unfolding looked
 returns c =
-    record {
-      is = rw (
-        c.from.ensures,
-        bit_is,
-        c.remainder.ensures,
-        c.remainder-2.ensures,
-        c.remainder-3.ensures,
-        c.remainder-4.ensures,
-        c.arbiter_of-t.ensures,
-      );
-      few = omega arith;
-    }
+    rw (
+      c.from.ensures,
+      bit_is,
+      c.number.ensures,
+      c.number-2.ensures,
+      c.number-3.ensures,
+      c.number-4.ensures,
+      c.arbiter_of-t.ensures,
+    ) at c.told.ensures

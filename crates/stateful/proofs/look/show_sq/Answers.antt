@@ -1,5 +1,4 @@
 -- `show_sq` meets its contract. Assumes nothing.
-use native.Mathlib.Omega.{arith}
 use Rattle.language.specs.Commands.{looked}
 use Rattle.stateful.proofs.Made.{bit_is}
 use Rattle.stateful.proofs.look.show_sq.Goals as goal
@@ -7,13 +6,10 @@ use Rattle.stateful.proofs.look.show_sq.Goals as goal
 pub returns : goal.returns
 unfolding looked
 returns c =
-    record {
-      is = rw (
-        c.from.ensures,
-        bit_is,
-        c.from-2.ensures,
-        bit_is,
-        c.sq_at-q.ensures,
-      );
-      few = omega arith;
-    }
+    rw (
+      c.from.ensures,
+      bit_is,
+      c.from-2.ensures,
+      bit_is,
+      c.sq_at-q.ensures,
+    ) at c.told.ensures

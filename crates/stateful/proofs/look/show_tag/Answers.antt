@@ -1,7 +1,6 @@
 -- `show_tag` meets its contract. Assumes nothing.
 use mathlib.Core.Path.{◌≡◌, sym, ap, ◌∙◌}
 use mathlib.Core.Bool.{true, false}
-use native.Mathlib.Omega.{arith}
 use lib.ListN.{get_or}
 use Rattle.store.specs.Held.{held}
 use Rattle.controller.specs.State.{outstanding}
@@ -14,7 +13,7 @@ returns-then-not-is_outstanding c =
     let e : outstanding (held c.args.state.now).free (get_or c.args.a.now 0 0) ≡ false =
     sym (c.is_outstanding.ensures ∙ ap (λ x. outstanding x (get_or c.args.a.now 0 0)) c.free_of.ensures)
     ∙ c.if-not-is_outstanding.true in
-    record { is = rw e; few = omega arith }
+    rw e c.told.ensures
 
 pub returns : goal.returns
 unfolding looked
@@ -22,4 +21,4 @@ returns c =
     let e : outstanding (held c.args.state.now).free (get_or c.args.a.now 0 0) ≡ true =
     sym (c.is_outstanding.ensures ∙ ap (λ x. outstanding x (get_or c.args.a.now 0 0)) c.free_of.ensures)
     ∙ c.if-not-is_outstanding.false in
-    record { is = rw (e, c.command_at-k.ensures); few = omega arith }
+    rw e (rw c.command_at-k.ensures at c.told-2.ensures)

@@ -51,7 +51,7 @@ returns-in-Ok c =
 
 pub returns-in-Err : goal.returns-in-Err
 returns-in-Err c =
-    let e = replay_refused _ _ _ _ _ _ _ _ (rw (c.in-Err.is, ← c.number.ensures) at c.replay.ensures.1) in (
+    let e = replay_refused _ _ _ _ _ _ _ _ (rw c.in-Err.is at c.replay.ensures.1) in (
       (λ n. printed_as (ap (λ (x : Reply). x.says) (sym e)) (c.say_refused.ensures n)),
       ap (λ (x : Reply). x.controller) (sym e),
       ap (λ (x : Reply). x.memory) (sym e),

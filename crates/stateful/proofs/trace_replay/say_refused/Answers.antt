@@ -7,8 +7,8 @@ use Rattle.stateful.proofs.trace_replay.say_refused.Goals as goal
 
 pub say-requires : goal.say-requires
 say-requires c =
-    sentence_fits c.args.word.now (c.args.refusal ∷ 0 ∷ []) [] (length c.args.out.now) c.requires.0 (omega arith) c.requires.1
+    sentence_fits c.args.word.now (c.number.result ∷ 0 ∷ []) [] (length c.args.out.now) c.requires.0 (omega arith) c.requires.1
 
 pub returns : goal.returns
 returns c =
-    c.say.ensures
+    rw c.number.ensures at c.say.ensures

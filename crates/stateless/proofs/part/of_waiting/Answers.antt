@@ -5,8 +5,8 @@ use Rattle.stateless.proofs.part.of_waiting.Goals as goal
 
 pub returns-in-Ok : goal.returns-in-Ok
 returns-in-Ok c =
-    rw c.in-Ok.is (record { is = refl; few = omega arith })
+    rw c.in-Ok.is c.told.ensures
 
 pub returns-in-Err : goal.returns-in-Err
 returns-in-Err c =
-    rw (c.in-Err.is, c.told.ensures, c.number.ensures) (record { is = refl; few = omega arith })
+    rw (c.in-Err.is, c.told_refusal.ensures) (record { is = refl; few = omega arith })

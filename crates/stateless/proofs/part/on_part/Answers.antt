@@ -21,11 +21,11 @@ unfolding on_part
 returns-in-Fill c = (
   rw (
     c.in-Fill.is,
-    c.told.ensures,
+    c.told.ensures.is,
     c.fill.ensures.len,
     c.fill.ensures.after (λ y e. e),
   ),
-  rw c.told.ensures (omega arith),
+  c.told.ensures.few,
 )
 
 pub returns-in-WriteSqe : goal.returns-in-WriteSqe
@@ -35,7 +35,6 @@ returns-in-WriteSqe c =
       rw (
         c.in-WriteSqe.is,
         c.changed.ensures,
-        c.code.ensures,
         ← c.submission_of.ensures,
         ← e.value,
         ← e.buf_after,

@@ -5,4 +5,4 @@ use Rattle.stateless.proofs.part.write_cqe.Goals as goal
 pub returns : goal.returns
 unfolding on_part
 returns c =
-    rw (c.code.ensures, c.write.ensures.value, c.write.ensures.buf_after)
+    rw (c.write.ensures.value, c.write.ensures.buf_after)

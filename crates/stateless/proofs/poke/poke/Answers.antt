@@ -1,9 +1,8 @@
 -- `poke` meets its contract. Assumes nothing.
-use mathlib.Core.Path.{ap}
+use mathlib.Core.Path.{refl}
 use Prim.Native.Nat.{◌≤◌, ◌-◌, ◌/◌, ◌<◌}
 use native.Mathlib.Omega.{arith}
 use lib.ListN.{length}
-use Rattle.stateless.specs.Leaving.{heard}
 use Rattle.stateless.proofs.Pokes.{values_length, values_over, values_fit, poke_begins_out, poke_ends_out, poke_put}
 use Rattle.stateless.proofs.poke.poke.Goals as goal
 
@@ -11,16 +10,16 @@ pub returns-then-n-place : goal.returns-then-n-place
 returns-then-n-place c =
     let a = c.args in
     let h : length a.memory.now < a.place = omega arith in
-    ((λ d. poke_begins_out d a.memory.now a.width a.place a.values.now _ c.bad.ensures.is h), c.bad.ensures.few)
+    ((λ d. poke_begins_out d a.memory.now a.width a.place a.values.now _ refl h), tt)
 
 pub returns-then-memory-at : goal.returns-then-memory-at
 returns-then-memory-at c =
     let a = c.args in
     let h : a.place ≤ length a.memory.now = omega arith in
     let j : (length a.memory.now - a.place) / a.width < length a.values.now = c.if-memory-at.true in (
-      (λ d. poke_ends_out d a.memory.now a.width a.place a.values.now _ c.bad-then-memory-at.ensures.is h (values_over _ a.width
+      (λ d. poke_ends_out d a.memory.now a.width a.place a.values.now _ refl h (values_over _ a.width
           _ c.requires j)),
-      c.bad-then-memory-at.ensures.few,
+      tt,
     )
 
 pub put_values-requires : goal.put_values-requires
@@ -39,6 +38,6 @@ returns c =
     let h : a.place ≤ length a.memory.now = omega arith in
     let j : length a.values.now ≤ (length a.memory.now - a.place) / a.width = c.if-memory-at.false in
     let f = values_fit (length a.memory.now - a.place) a.width (length a.values.now) c.requires j in (
-      (λ d. poke_put d a.memory.now a.width a.place a.values.now _ (ap heard c.told.ensures) h f c.put_values.ensures),
-      rw c.told.ensures (omega arith),
+      (λ d. poke_put d a.memory.now a.width a.place a.values.now _ c.told.ensures.is h f c.put_values.ensures),
+      c.told.ensures.few,
     )

@@ -16,7 +16,7 @@ pub loop-i-preserved : goal.loop-i-preserved
 loop-i-preserved c =
     let a = c.args in
     let l = c.loop-i in
-    let e = c.put8.ensures in (
+    let e = c.put.ensures in (
       ap length e ∙ length-sets l.memory (a.at + l.i) (le 1 l.rest) ∙ l.invariant.0,
       ap (λ x. sets x (a.at + (l.i + 1)) (le (a.width - (l.i + 1)) (l.rest / 256))) e
           ∙ value_more l.memory a.at a.width l.i l.rest c.loop-i-test.true ∙ l.invariant.1,

@@ -6,4 +6,5 @@ use Rattle.stateless.proofs.speak.say.Goals as goal
 pub returns : goal.returns
 returns c =
     let p = c.put_sentence.ensures in
-    λ n. record { text = p; good = refl; refusal = refl; lent = refl; short = omega (arith, p.ends) }
+    let v = c.of.ensures in
+    λ n. record { text = p; good = v.0; refusal = v.1; lent = refl; short = omega (arith, p.ends) }

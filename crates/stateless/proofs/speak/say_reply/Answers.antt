@@ -4,10 +4,9 @@ use mathlib.Core.List.{[]}
 use Prim.Native.Nat.{◌≤◌}
 use native.Mathlib.Omega.{arith}
 use borrow.Author.Rules.{rules}
-use borrow.Author.Tests.{not-true, not-false}
 use lib.ListN.{length, take}
 use lib.Seq.{length-take-le}
-use Rattle.stateless.proofs.Sentences.{sentence_fits, printed_as, heard_bad, heard_good}
+use Rattle.stateless.proofs.Sentences.{sentence_fits, printed_as, heard_firsts}
 use Rattle.stateless.proofs.speak.say_reply.Goals as goal
 use Rattle.stateless.proofs.speak.say_reply.Goals.{Start}
 
@@ -17,10 +16,6 @@ fits :
 fits s =
     let h : length s.args.reply.numbers ≡ 16 = search rules in
     omega (arith, h, s.requires.0)
-
-pub returns-then-not-reply : goal.returns-then-not-reply
-returns-then-not-reply c =
-    printed_as (heard_bad c.args.reply (not-true _ c.if-not-reply.true)) (c.say_bad.ensures c.args.word.now)
 
 pub slice_bounds-numbers-end : goal.slice_bounds-numbers-end
 slice_bounds-numbers-end c =
@@ -38,5 +33,4 @@ say-requires c =
 
 pub returns : goal.returns
 returns c =
-    printed_as (heard_good c.args.reply
-    (not-false _ c.if-not-reply.false) (fits (goal.at.returns c).Start)) (c.say.ensures c.args.number)
+    λ n. printed_as (heard_firsts c.args.reply (fits (goal.at.returns c).Start)) (c.say.ensures n)

@@ -20,8 +20,8 @@ loop-i-preserved c =
     let l = c.loop-i in (
       omega arith,
       simp length-set l.invariant.1,
-      pairs_more a.addresses.now a.counts.now l.numbers l.to l.i a.pages c.loop-i-test.true c.get64.ensures.0
-          c.get32.ensures.0 ∙ l.invariant.2,
+      pairs_more a.addresses.now a.counts.now l.numbers l.to l.i a.pages c.loop-i-test.true c.get.ensures.0
+          c.get-in-loop-i.ensures.0 ∙ l.invariant.2,
     )
 
 pub returns : goal.returns

@@ -16,8 +16,8 @@ pub overflow_add-at : goal.overflow_add-at
 overflow_add-at c =
     omega arith
 
-pub get8-requires : goal.get8-requires
-get8-requires c =
+pub get-requires-clause-room : goal.get-requires-clause-room
+get-requires-clause-room c =
     omega arith
 
 pub slice_bounds-put_record-count : goal.slice_bounds-put_record-count
@@ -58,7 +58,7 @@ put_record-to-requires c =
         omega (arith, length-take (l.at + 16 - l.at) (drop l.at answers), length-drop l.at answers, c.requires.trace_len_bound),
       );
       answer_in_bounds = room_more l.invariant.1 (record_line u.records bytes answer) (told u (left trace answers (l.at + 16)))
-          (told_next trace answers l.at h c.get8.ensures.0 c.next_at-end.ensures l.after c.with-after.ensures) room;
+          (told_next trace answers l.at h c.get.ensures.0 c.next_at-end.ensures l.after c.with-after.ensures) room;
     }
 
 pub loop-at-smaller : goal.loop-at-smaller
@@ -72,9 +72,9 @@ loop-at-preserved c =
     let h : l.at < length s.trace.now = omega arith in (
       omega arith,
       one_more l.invariant.1
-          (told_next s.trace.now s.answers.now l.at h c.get8.ensures.0 c.next_at-end.ensures l.after c.with-after.ensures)
+          (told_next s.trace.now s.answers.now l.at h c.get.ensures.0 c.next_at-end.ensures l.after c.with-after.ensures)
           c.put_record-to.ensures,
-      sym (tallied_next s.trace.now s.answers.now l.at h c.get8.ensures.0 c.next_at-end.ensures l.after c.with-after.ensures)
+      sym (tallied_next s.trace.now s.answers.now l.at h c.get.ensures.0 c.next_at-end.ensures l.after c.with-after.ensures)
           ∙ l.invariant.2,
     )
 
@@ -99,7 +99,7 @@ returns-2 c =
     let h : l.at < length trace = omega arith in
     let last : length trace ≤ l.at + 16 = omega arith in
     let u = c.with-after in
-    let read = c.get8.ensures.0 in
+    let read = c.get.ensures.0 in
     let end = c.next_at-end.ensures in
     let all = left_all trace answers in
     let put = one_more l.invariant.1 (told_next trace answers l.at h read end l.after u.ensures) c.put_record-to.ensures in

@@ -9,23 +9,23 @@ put_done-requires c =
     let a = c.args.answer.now in
     omega (
       arith,
-      ap length (answer_done a c.get8-refusal.ensures.0 c.if-refusal-eq0.true c.get8.ensures.0 c.get16.ensures.0),
+      ap length (answer_done a c.get-refusal.ensures.0 c.if-refusal-eq0.true c.get.ensures.0 c.get-then-refusal-eq0.ensures.0),
       c.requires.1,
     )
 
 pub returns-then-refusal-eq0 : goal.returns-then-refusal-eq0
 returns-then-refusal-eq0 c =
-    put_as c.put_done.ensures (answer_done _ c.get8-refusal.ensures.0 c.if-refusal-eq0.true c.get8.ensures.0 c.get16.ensures.0)
+    put_as c.put_done.ensures (answer_done _ c.get-refusal.ensures.0 c.if-refusal-eq0.true c.get.ensures.0 c.get-then-refusal-eq0.ensures.0)
 
 pub put_refused-requires : goal.put_refused-requires
 put_refused-requires c =
     let a = c.args.answer.now in
     omega (
       arith,
-      ap length (answer_refused a c.get8-refusal.ensures.0 c.if-refusal-eq0.false),
+      ap length (answer_refused a c.get-refusal.ensures.0 c.if-refusal-eq0.false),
       c.requires.1,
     )
 
 pub returns : goal.returns
 returns c =
-    put_as c.put_refused.ensures (answer_refused _ c.get8-refusal.ensures.0 c.if-refusal-eq0.false)
+    put_as c.put_refused.ensures (answer_refused _ c.get-refusal.ensures.0 c.if-refusal-eq0.false)
