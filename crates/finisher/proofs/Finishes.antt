@@ -116,7 +116,7 @@ module _ (c : Controller) (n tag status : ℕ) where
     passed_call : Unapplied on_call
     passed_call = passed on_call tt (sym e)
 
-    past_call : {l : ℕ} → l ≡ first_match on_posting → l ≡ finish_refusal c n tag status
+    pub past_call : {l : ℕ} → l ≡ first_match on_posting → l ≡ finish_refusal c n tag status
     unfolding finish_refusal
     past_call f = f ∙ sym (append_passed on_call on_posting passed_call)
 

@@ -18,10 +18,10 @@ use Rattle.controller.specs.Controller.{Controller}
 use Rattle.controller.specs.Answers.{number_of}
 use Rattle.controller.specs.Calls.{of_number}
 use Rattle.trace.specs.Record.{sent, record_in, asked}
-use Rattle.trace.specs.Trace.{begun, records, record_at}
+use Rattle.trace.specs.Trace.{begun, records, record_at, next_at}
 use Rattle.trace.specs.declared.Record.{Record}
 use Rattle.trace.proofs.Wholes.{sent_at, there}
-use Rattle.trace.proofs.Cutting.{records_from, count, at_end, unrolled, room_here, room_next}
+use Rattle.trace.proofs.Cutting.{records_from, count, at_end, by_16, next_place, from_next, room_here, room_16, room_next}
 use Rattle.replay.specs.Replay.{Done, coming, done_by, answer_bytes, Replay, leaving, played, ended, replay}
 
 -- ---- a call's answer in numbers
@@ -136,10 +136,11 @@ module _ {c₀ : Controller} {m₀ : Memory} {t room₀ : List ℕ} {c : Control
     pub room_now : place + 16 ≤ length room
     room_now = omega (arith, room_here t place l, g.fits)
 
-    pub goes_on : let d = done_by c m (asked (record_in (part t place 16))) in
+    -- the answers go on 16 bytes further
+    pub goes_16 : let d = done_by c m (asked (record_in (part t place 16))) in
         Going c₀ m₀ t room₀ d.controller d.memory
         (put room place (answer_bytes (sent (part t place 16)) d.refusal d.result)) (place + 16)
-    goes_on =
+    goes_16 =
         let r = part t place 16 in
         let rest = records_from t (place + 16) in
         let d = done_by c m (asked (record_in r)) in
@@ -147,12 +148,38 @@ module _ {c₀ : Controller} {m₀ : Memory} {t room₀ : List ℕ} {c : Control
         let n : length (put room place a) ≡ length room = put_length room place a
         (omega (arith, answer_length (sent r) d.refusal d.result, room_now)) in
         let k : begun (length t - place) ≡ suc (length rest) = sym (count (begun (length t - place)) (drop place t))
-        ∙ ap length (unrolled t place l) in
+        ∙ ap length (by_16 t place l) in
+        record {
+          fits = omega (arith, room_16 t place l, g.fits, n);
+          same = sym (one_more c m room place r rest (omega (arith, g.fits, k)))
+              ∙ ap (filled c m room place) (sym (by_16 t place l))
+              ∙ g.same;
+        }
+
+    module _ (c' : Controller) (m' : Memory) (room' : List ℕ) (n : length room' ≡ length room) where
+      -- that is the next place where a record is left
+      further : filled c' m' room' (next_at t place) (records_from t (next_at t place))
+          ≡ filled c' m' room' (place + 16) (records_from t (next_at t place))
+      further =
+          ⊎_elim (λ e. ap (λ k. filled c' m' room' k (records_from t (next_at t place))) e)
+          (λ e. rw e (sym (none_left c' m' room' (next_at t place) (omega (arith, room_next t place l, g.fits)))
+          ∙ none_left c' m' room' (place + 16) (omega (arith, room_now))))
+          (next_place t place l)
+
+    pub goes_on : let d = done_by c m (asked (record_in (part t place 16))) in
+        Going c₀ m₀ t room₀ d.controller d.memory
+        (put room place (answer_bytes (sent (part t place 16)) d.refusal d.result)) (next_at t place)
+    goes_on =
+        let r = part t place 16 in
+        let d = done_by c m (asked (record_in r)) in
+        let a = answer_bytes (sent r) d.refusal d.result in
+        let n : length (put room place a) ≡ length room = put_length room place a
+        (omega (arith, answer_length (sent r) d.refusal d.result, room_now)) in
         record {
           fits = omega (arith, room_next t place l, g.fits, n);
-          same = sym (one_more c m room place r rest (omega (arith, g.fits, k)))
-              ∙ ap (filled c m room place) (sym (unrolled t place l))
-              ∙ g.same;
+          same = further d.controller d.memory (put room place a) n
+              ∙ ap (filled d.controller d.memory (put room place a) (place + 16)) (from_next t place l)
+              ∙ goes_16.same;
         }
 
 -- ---- the call

@@ -16,7 +16,7 @@ use finisher::finish;
 use rules::refusal::Refusal;
 use starter::start;
 use store::WORDS;
-use trace::{RECORD_BYTES, Record, read};
+use trace::{RECORD_BYTES, Record, next_at, read};
 
 // The tag of what a start takes, the first of a pair's.
 fn first_tag(answer: Started) -> u64
@@ -110,8 +110,10 @@ pub fn replay(
     if answers.len() < RECORD_BYTES * n {
         return Err(Refusal::BufferTooShort);
     }
-    for i in 0..n {
-        answer(state, memory, trace, answers, RECORD_BYTES * i);
+    let mut at = 0;
+    for _i in 0..n {
+        answer(state, memory, trace, answers, at);
+        at = next_at(trace, at);
     }
     Ok(n as u64)
 }

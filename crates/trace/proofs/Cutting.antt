@@ -1,7 +1,7 @@
 -- A trace cut into records, from a place on. Assumes nothing.
 use Prim.Native.Nat.{ℕ, zero, suc, ◌+◌, ◌*◌, ◌-◌, ◌<◌, ◌≤◌}
 use mathlib.Core.List.{List, [], ◌∷◌}
-use mathlib.Core.Logic.{⊎_elim}
+use mathlib.Core.Logic.{◌⊎◌, inl, inr, ⊎_elim}
 use mathlib.Core.Path.{◌≡◌, refl, sym, ap, ◌∙◌}
 use native.Mathlib.Omega.{arith}
 use lib.ListN.{length, drop}
@@ -39,8 +39,8 @@ module _ (t : List ℕ) (place : ℕ) where
       let z : begun (length t - (place + 16)) ≡ 0 = omega arith in
       rw (n, z)
 
-  pub unrolled : place < length t → records_from t place ≡ part t place 16 ∷ records_from t (place + 16)
-  unrolled l = ⊎_elim (last l) whole (lt_or_ge (length t) (place + 16))
+  pub by_16 : place < length t → records_from t place ≡ part t place 16 ∷ records_from t (place + 16)
+  by_16 l = ⊎_elim (last l) whole (lt_or_ge (length t) (place + 16))
 
   -- those are the records from the next place on
   pub from_next : place < length t → records_from t (next_at t place) ≡ records_from t (place + 16)
@@ -49,11 +49,24 @@ module _ (t : List ℕ) (place : ℕ) where
       ⊎_elim (λ h. at_end t (next_at t place) (omega arith) ∙ sym (at_end t (place + 16) (omega arith)))
       (λ h. let e : next_at t place ≡ place + 16 = omega arith in ap (records_from t) e) (lt_or_ge (length t) (place + 16))
 
-  -- 16 bytes for each record from here on are 16 for this one, and enough for each from 16 bytes on
+  pub unrolled : place < length t → records_from t place ≡ part t place 16 ∷ records_from t (next_at t place)
+  unrolled l = rw (from_next l) (by_16 l)
+
+  -- the next place is the next record's, or no record is left
+  pub next_place : place < length t → (next_at t place ≡ place + 16) ⊎ (records_from t (next_at t place) ≡ [])
+  unfolding next_at
+  next_place l =
+      ⊎_elim (λ h. inr (at_end t (next_at t place) (omega arith))) (λ h. inl (omega arith)) (lt_or_ge (length t) (place + 16))
+
+  -- 16 bytes for each record from here on are 16 for this one, and enough for each from 16 bytes on, or from the next place on
   pub room_here : place < length t → place + 16 ≤ place + 16 * begun (length t - place)
   unfolding begun
   room_here l = omega arith
 
-  pub room_next : place < length t → place + 16 + 16 * begun (length t - (place + 16)) ≤ place + 16 * begun (length t - place)
+  pub room_16 : place < length t → place + 16 + 16 * begun (length t - (place + 16)) ≤ place + 16 * begun (length t - place)
   unfolding begun
+  room_16 l = omega arith
+
+  pub room_next : place < length t → next_at t place + 16 * begun (length t - next_at t place) ≤ place + 16 * begun (length t - place)
+  unfolding begun next_at
   room_next l = omega arith

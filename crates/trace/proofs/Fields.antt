@@ -96,7 +96,7 @@ module _ (t : List ℕ) (place : ℕ) (h : place + 16 ≤ length t) where
   Spare k = any_set (drop (first_spare k) (part t place 16))
 
   -- what is set from byte 4 on is spare in every record
-  spare_last : (k : Kind) → any_set (drop 4 (part t place 16)) ≡ true → true ≡ Spare k
+  pub spare_last : (k : Kind) → any_set (drop 4 (part t place 16)) ≡ true → true ≡ Spare k
   spare_last K.TailWrite e = sym e
   spare_last K.HeadWrite e = sym e
   spare_last K.Start e = simp (from_1, e, or-true)

@@ -10,7 +10,7 @@ use Rattle.trace.specs.declared.Record.{Record}
 use Rattle.trace.specs.declared.Record.TheVariants.{End}
 use Rattle.trace.specs.Record.{record_in}
 use Rattle.trace.specs.Trace.{begun, records, record_at, next_at}
-use Rattle.trace.proofs.Cutting.{records_from, at_end, unrolled, from_next}
+use Rattle.trace.proofs.Cutting.{records_from, at_end, unrolled}
 use Rattle.trace.proofs.Wholes.{ended, there}
 
 -- the first n records that a reader hands out which stands at a place: by the contracts of `next` and `moved`, it hands out the record
@@ -42,7 +42,7 @@ module _ (t : List ℕ) where
   from_place zero n place e = let h = none_begun place e in rw (at_end t place h, zero-add n) (past n place h)
   from_place (suc k) n place e =
       let b = one_begun k place e in
-      rw (suc-add, unrolled t place b.0, ← from_next t place b.0, ← there t place b.0, from_place k n (next_at t place) b.1)
+      rw (suc-add, unrolled t place b.0, ← there t place b.0, from_place k n (next_at t place) b.1)
 
   -- from the start, where `new` puts it: the trace's records, and then, of any n more, the end each time
   pub hands_out : (n : ℕ) → handed_out (begun (length t) + n) t 0 ≡ map record_in (records t) ++ replicate n (Ok End)

@@ -27,7 +27,7 @@ use Rattle.rules.proofs.Tests.{lt_or_ge}
 use Rattle.le.specs.Le.{le_at}
 use Rattle.le.specs.Memory.{part}
 use Rattle.trace.specs.Trace.{records, next_at}
-use Rattle.trace.proofs.Cutting.{records_from, at_end, unrolled}
+use Rattle.trace.proofs.Cutting.{records_from, at_end, by_16}
 use Rattle.trace.proofs.Fields.{le_at_part}
 use Rattle.transcript.specs.declared.summary.Tally.{Tally}
 use Rattle.transcript.specs.Record.{refusal_of, record_line}
@@ -56,7 +56,7 @@ module _ (trace answers : List ℕ) where
     -- before it the one there, and those 16 bytes on
     module _ (h : place < length trace) where
       unroll : left trace answers place ≡ (part trace place 16, take 16 (drop place answers)) ∷ left trace answers (place + 16)
-      unroll = rw (unrolled trace place h, drop-drop 16 place answers)
+      unroll = rw (by_16 trace place h, drop-drop 16 place answers)
 
       -- by what the code reads
       module _ {n end : ℕ} (e : n ≡ le_at 1 answers (place + 1)) (f : end ≡ next_at trace place) where
