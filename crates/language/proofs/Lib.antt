@@ -1,2 +1,3 @@
+pub mod Formed
 pub mod Rows
 pub mod Outside

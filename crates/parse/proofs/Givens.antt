@@ -17,7 +17,7 @@ use Rattle.parse.specs.Line.{words_of}
 use Rattle.parse.specs.Numeral.{number_in, up_to}
 use Rattle.parse.specs.Values.{Values, and_then, single, of_each, fixed_in, numbers_in, byte_of, bytes_of, bytes_in, Stored}
 use Rattle.parse.specs.Arguments.{Given, given, is_empty, rest_in, arguments_in, Fixed, Read}
-use Rattle.std.specs.Prelude.{Option, Some, None}
+use Rattle.std.specs.Prelude.{Option, Some, None, Result, Ok, Err}
 use Rattle.parse.specs.declared.arguments.Rest.{Rest}
 use Rattle.parse.specs.declared.arguments.Rest.TheVariants.{Nothing, Numbers, Bytes}
 use Rattle.parse.specs.declared.arguments.Arguments as code
@@ -51,22 +51,29 @@ fixed_count (m ∷ ms) (w ∷ ws) e =
 -- ---- the code's answer
 
 module _ {largest line n₀ n₁ : List ℕ} {place : ℕ} where
-  pub fixed_bad : Stored (fixed_in largest (words_of (drop place line))) n₀ 0 n₁ None → Fixed largest line place n₀ n₁ None
-  fixed_bad s = record { put = put_to s.put (omega arith); judged = sym (is_bad _ _ s.answers); behind = tt }
+  pub fixed_bad : {count : ℕ} → Stored (fixed_in largest (words_of (drop place line))) n₀ 0 n₁ (Err count)
+      → Fixed largest line place n₀ n₁ (Err count)
+  fixed_bad s =
+      let b = is_bad _ _ s.answers in
+      record { put = put_to s.put (omega arith); judged = sym b.0; behind = tt; stored = omega (arith, b.1) }
 
-  pub fixed_good : {count end : ℕ} → Stored (fixed_in largest (words_of (drop place line))) n₀ 0 n₁ (Some count) → end ≤ length line
-      → words_of (drop end line) ≡ drop (length largest) (words_of (drop place line)) → Fixed largest line place n₀ n₁ (Some end)
-  fixed_good s h k = record { put = put_to s.put (omega arith); judged = sym (is_good _ _ s.answers).0; behind = (h, k) }
+  pub fixed_good : {count end : ℕ} → Stored (fixed_in largest (words_of (drop place line))) n₀ 0 n₁ (Ok count) → end ≤ length line
+      → words_of (drop end line) ≡ drop (length largest) (words_of (drop place line)) → Fixed largest line place n₀ n₁ (Ok end)
+  fixed_good s h k = record { put = put_to s.put (omega arith); judged = sym (is_good _ _ s.answers).0; behind = (h, k); stored = tt }
 
-abbrev pub answer_of : (ℕ → code.Arguments) → Option ℕ → Option code.Arguments
-answer_of f (Some n) = Some (f n)
-answer_of f None = None
+abbrev pub no_bytes : ℕ → code.Arguments
+no_bytes n = record { numbers = n; bytes = 0 }
 
-answer_picked : (f : ℕ → code.Arguments) (g : Bool) (n : ℕ) → answer_of f (pick g (Some n) None) ≡ pick g (Some (f n)) None
+abbrev pub answer_of : (ℕ → code.Arguments) → Result ℕ ℕ → Result code.Arguments code.Arguments
+answer_of f (Ok n) = Ok (f n)
+answer_of f (Err n) = Err (f n)
+
+answer_picked : (f : ℕ → code.Arguments) (g : Bool) (n : ℕ) → answer_of f (pick g (Ok n) (Err n)) ≡ pick g (Ok (f n)) (Err (f n))
 answer_picked f true n = refl
 answer_picked f false n = refl
 
-read_as : {g h : Given} {r : Option code.Arguments} {n₀ n₁ b₀ b₁ : List ℕ} → h ≡ g → Read g r n₀ n₁ b₀ b₁ → Read h r n₀ n₁ b₀ b₁
+read_as : {g h : Given} {r : Result code.Arguments code.Arguments} {n₀ n₁ b₀ b₁ : List ℕ} → h ≡ g → Read g r n₀ n₁ b₀ b₁
+    → Read h r n₀ n₁ b₀ b₁
 read_as {r = r} {n₀ = n₀} {n₁ = n₁} {b₀ = b₀} {b₁ = b₁} e x = subst (λ (y : Given). Read y r n₀ n₁ b₀ b₁) (sym e) x
 
 module _ (largest : List ℕ) (rest : Rest) (ws : List (List ℕ)) where
@@ -85,11 +92,13 @@ module _ (largest line : List ℕ) (place : ℕ) where
   ws = words_of (drop place line)
 
   module _ {n₀ n₁ : List ℕ} (b₀ : List ℕ) where
-    pub read_bad : (rest : Rest) → Fixed largest line place n₀ n₁ None → Read (arguments_in largest rest ws) None n₀ n₁ b₀ b₀
+    pub read_bad : (rest : Rest) {count : ℕ} → Fixed largest line place n₀ n₁ (Err count)
+        → Read (arguments_in largest rest ws) (Err (no_bytes count)) n₀ n₁ b₀ b₀
     read_bad rest s =
-        read_as (given_bad largest rest ws (sym s.judged)) (record { numbers = s.put; bytes = put_none b₀ 0; answers = refl })
+        read_as (given_bad largest rest ws (sym s.judged))
+        (record { numbers = s.put; bytes = put_none b₀ 0; answers = ap (λ n. Err (no_bytes n)) s.stored })
 
-    module _ {end : ℕ} (s : Fixed largest line place n₀ n₁ (Some end)) where
+    module _ {end : ℕ} (s : Fixed largest line place n₀ n₁ (Ok end)) where
       of_rest : (rest rest₁ : Rest) → rest ≡ rest₁
           → arguments_in largest rest ws ≡ rest_in rest₁ (fixed_in largest ws).list (drop (length largest) ws)
       of_rest rest rest₁ e =
@@ -100,7 +109,7 @@ module _ (largest line : List ℕ) (place : ℕ) where
       count = (fixed_count largest ws (sym s.judged)).0
 
       pub read_nothing : (rest : Rest) (t : Bool) → rest ≡ Nothing → t ≡ is_empty (words_of (drop end line))
-          → Read (arguments_in largest rest ws) (pick t (Some (record { numbers = length largest; bytes = 0 })) None) n₀ n₁ b₀ b₀
+          → Read (arguments_in largest rest ws) (pick t (Ok (no_bytes (length largest))) (Err (no_bytes (length largest)))) n₀ n₁ b₀ b₀
       read_nothing rest t e k =
           read_as (of_rest rest Nothing e)
           (record {
@@ -110,9 +119,9 @@ module _ (largest line : List ℕ) (place : ℕ) where
                 rw (count, k, s.behind.1) refl;
           })
 
-      pub read_numbers : (rest : Rest) (m : ℕ) {n₂ : List ℕ} {r : Option ℕ} → rest ≡ Numbers m
+      pub read_numbers : (rest : Rest) (m : ℕ) {n₂ : List ℕ} {r : Result ℕ ℕ} → rest ≡ Numbers m
           → Stored (numbers_in m (words_of (drop end line))) n₁ (length largest) n₂ r
-          → Read (arguments_in largest rest ws) (answer_of (λ n. record { numbers = n; bytes = 0 }) r) n₀ n₂ b₀ b₀
+          → Read (arguments_in largest rest ws) (answer_of no_bytes r) n₀ n₂ b₀ b₀
       read_numbers rest m {n₂} {r} e t₀ =
           let t = rw s.behind.1 at t₀ in
           let l : length largest + length (numbers_in m (drop (length largest) ws)).list
@@ -123,12 +132,11 @@ module _ (largest line : List ℕ) (place : ℕ) where
             numbers = put_to (put_then (put_to s.put count) t.put) l;
             bytes = put_none b₀ 0;
             answers =
-                ap (answer_of (λ n. record { numbers = n; bytes = 0 })) t.answers
-                ∙ answer_picked (λ n. record { numbers = n; bytes = 0 }) _ _
-                ∙ ap (λ n. pick (numbers_in m (drop (length largest) ws)).good (Some (record { numbers = n; bytes = 0 })) None) l;
+                ap (answer_of no_bytes) t.answers ∙ answer_picked no_bytes _ _
+                ∙ ap (λ n. pick (numbers_in m (drop (length largest) ws)).good (Ok (no_bytes n)) (Err (no_bytes n))) l;
           })
 
-      pub read_bytes : (rest : Rest) {b₁ : List ℕ} {r : Option ℕ} → rest ≡ Bytes
+      pub read_bytes : (rest : Rest) {b₁ : List ℕ} {r : Result ℕ ℕ} → rest ≡ Bytes
           → Stored (bytes_in (words_of (drop end line))) b₀ 0 b₁ r
           → Read (arguments_in largest rest ws) (answer_of (λ n. record { numbers = length largest; bytes = n }) r) n₀ n₁ b₀ b₁
       read_bytes rest {b₁} {r} e t₀ =

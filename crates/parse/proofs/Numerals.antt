@@ -169,5 +169,9 @@ value_decimal w h e = rw (ne_eqb (length w) 0 h, e)
 
 -- ---- a number up to a largest
 
-pub up_to_largest : (m : ℕ) (w : List ℕ) (n : ℕ) → number_in w ≡ Some n → n ≤ m → up_to m (number_in w) ≡ Some n
-up_to_largest m w n e h = rw (e, le-ltb m n h)
+module _ (m : ℕ) (w : List ℕ) (n : ℕ) (e : number_in w ≡ Some n) where
+  pub above_largest : m < n → up_to m (number_in w) ≡ None
+  above_largest h = rw (e, lt-ltb m n h)
+
+  pub up_to_largest : n ≤ m → up_to m (number_in w) ≡ Some n
+  up_to_largest h = rw (e, le-ltb m n h)

@@ -1,5 +1,5 @@
 -- What the words after a command give.
-use Rattle.std.specs.Prelude.{ℕ, Bool, true, false, List, [], ◌∷◌, ◌++◌, ◌≡◌, ◌≤◌, length, drop, Option, Some, None, is_some, IfSome}
+use Rattle.std.specs.Prelude.{ℕ, Bool, true, false, List, [], ◌∷◌, ◌++◌, ◌≡◌, ◌≤◌, length, drop, Result, Ok, Err, is_ok, IfOk, IfErr}
 use Rattle.rules.specs.Rules.{pick}
 use Rattle.print.specs.Put.{Put}
 use Rattle.parse.specs.Line.{words_of}
@@ -33,17 +33,22 @@ arguments_in largest rest ws =
     let f = fixed_in largest ws in
     pick f.good (rest_in rest f.list (drop (length largest) ws)) (given false f.list [])
 
--- what the code leaves of fixed numbers in a buffer, and the place in the line after their words where none is bad or missing
-pub record Fixed (largest line : List ℕ) (place : ℕ) (before after : List ℕ) (answer : Option ℕ) : Type 0 where
+-- what the code leaves of fixed numbers in a buffer, and the place in the line after their words where none is bad or missing; else how
+-- many they are
+pub record Fixed (largest line : List ℕ) (place : ℕ) (before after : List ℕ) (answer : Result ℕ ℕ) : Type 0 where
   pub put :
       let f = fixed_in largest (words_of (drop place line)) in
       Put before 0 f.list after (length f.list)
-  pub judged : is_some answer ≡ (fixed_in largest (words_of (drop place line))).good
-  pub behind : IfSome answer
+  pub judged : is_ok answer ≡ (fixed_in largest (words_of (drop place line))).good
+  pub behind : IfOk answer
       (λ end. (end ≤ length line) × (words_of (drop end line) ≡ drop (length largest) (words_of (drop place line))))
+  pub stored : IfErr answer (λ count. count ≡ length (fixed_in largest (words_of (drop place line))).list)
 
--- what the code leaves of numbers and bytes in a buffer for each, and its answer
-pub record Read (g : Given) (answer : Option code.Arguments) (numbers₀ numbers₁ bytes₀ bytes₁ : List ℕ) : Type 0 where
+-- what the code leaves of numbers and bytes in a buffer for each, and its answer: how many they are, and whether no word was bad, missing
+-- or left
+pub record Read (g : Given) (answer : Result code.Arguments code.Arguments) (numbers₀ numbers₁ bytes₀ bytes₁ : List ℕ) : Type 0 where
   pub numbers : Put numbers₀ 0 g.numbers numbers₁ (length g.numbers)
   pub bytes : Put bytes₀ 0 g.bytes bytes₁ (length g.bytes)
-  pub answers : answer ≡ pick g.good (Some (record { numbers = length g.numbers; bytes = length g.bytes })) None
+  pub answers :
+      let c : code.Arguments = record { numbers = length g.numbers; bytes = length g.bytes } in
+      answer ≡ pick g.good (Ok c) (Err c)

@@ -1,5 +1,6 @@
 -- Values that are read from words, one after another, up to the first that is bad.
 use Rattle.std.specs.Prelude.{ℕ, ◌+◌, ◌*◌, Bool, true, false, ◌&&◌, List, [], ◌∷◌, ◌++◌, ◌≡◌, ltb, length, Option, Some, None}
+use Rattle.std.specs.Prelude.{Result, Ok, Err}
 use Rattle.rules.specs.Rules.{pick}
 use Rattle.print.specs.Put.{Put}
 use Rattle.parse.specs.Numeral.{digit, number_in, up_to}
@@ -56,7 +57,7 @@ bytes_of (high ∷ low ∷ w) = and_then (single (byte_of high low)) (bytes_of w
 abbrev pub bytes_in : List (List ℕ) → Values
 bytes_in ws = of_each bytes_of ws
 
--- what the code leaves of them in a buffer, from a place on, and its answer: the place after the last where none is bad
-pub record Stored (v : Values) (before : List ℕ) (place : ℕ) (after : List ℕ) (answer : Option ℕ) : Type 0 where
+-- what the code leaves of them in a buffer, from a place on, and its answer: the place after the last, and whether none is bad
+pub record Stored (v : Values) (before : List ℕ) (place : ℕ) (after : List ℕ) (answer : Result ℕ ℕ) : Type 0 where
   pub put : Put before place v.list after (place + length v.list)
-  pub answers : answer ≡ pick v.good (Some (place + length v.list)) None
+  pub answers : answer ≡ pick v.good (Ok (place + length v.list)) (Err (place + length v.list))

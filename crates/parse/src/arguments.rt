@@ -24,8 +24,8 @@ pub struct Arguments {
 }
 
 // Stores a number for each largest value, from the word at `at` on; answers the place after the last word in the line where none is bad
-// or missing.
-fn store_fixed(line: &[u8], at: usize, largest: &[u64], numbers: &mut [u64]) -> Option<usize>
+// or missing, and else how many are stored.
+fn store_fixed(line: &[u8], at: usize, largest: &[u64], numbers: &mut [u64]) -> Result<usize, usize>
     requires { (at ≤ length line.now) × (length largest.now ≤ length numbers.old) }
     ensures { Fixed largest.now line.now at numbers.old numbers.new result }
 {
@@ -35,24 +35,24 @@ fn store_fixed(line: &[u8], at: usize, largest: &[u64], numbers: &mut [u64]) -> 
         let start = w.start;
         let end = w.end;
         if start == end {
-            return None;
+            return Err(i);
         }
-        let n = value_up_to(&line[start..end], largest[i])?;
+        let n = value_up_to(&line[start..end], largest[i]).ok_or(i)?;
         numbers[i] = n;
         from = end;
     }
-    Some(from)
+    Ok(from)
 }
 
-// Stores the numbers of all words from `at` on behind the first `count`, each up to a largest value; answers how many there are then where
-// none is bad.
+// Stores the numbers of all words from `at` on behind the first `count`, each up to a largest value; answers how many there are then, and
+// by `Err` where a word is bad.
 fn store_numbers(
     line: &[u8],
     at: usize,
     largest: u64,
     numbers: &mut [u64],
     count: usize,
-) -> Option<usize>
+) -> Result<usize, usize>
     requires { (at ≤ length line.now) × (count + length (words_of (drop at line.now)) ≤ length numbers.old) }
     ensures { Stored (numbers_in largest (words_of (drop at line.now))) numbers.old count numbers.new result }
 {
@@ -63,9 +63,9 @@ fn store_numbers(
         let start = w.start;
         let stop = w.end;
         if start == stop {
-            return Some(end);
+            return Ok(end);
         }
-        let n = value_up_to(&line[start..stop], largest)?;
+        let n = value_up_to(&line[start..stop], largest).ok_or(end)?;
         numbers[end] = n;
         end += 1;
         from = stop;
@@ -73,7 +73,8 @@ fn store_numbers(
 }
 
 // Reads the words of a line from `at` on: a number for each largest value, and what may stand behind them. Numbers and bytes are stored
-// from the start of their buffers on, up to the first word that is bad. Answers none where a word is bad, missing or left.
+// from the start of their buffers on, up to the first word that is bad. Answers how many there are, and by `Err` where a word is bad,
+// missing or left.
 pub fn read(
     line: &[u8],
     at: usize,
@@ -81,38 +82,53 @@ pub fn read(
     rest: Rest,
     numbers: &mut [u64],
     bytes: &mut [u8],
-) -> Option<Arguments>
+) -> Result<Arguments, Arguments>
     requires { (at ≤ length line.now) × (length largest.now ≤ length numbers.old) × (length line.now ≤ 2 * length numbers.old)
         × (length line.now ≤ 2 * length bytes.old) }
     ensures { Read (arguments_in largest.now rest (words_of (drop at line.now))) result
         numbers.old numbers.new bytes.old bytes.new }
 {
-    let end = store_fixed(line, at, largest, numbers)?;
+    let end = match store_fixed(line, at, largest, numbers) {
+        Ok(end) => end,
+        Err(stored) => {
+            return Err(Arguments {
+                numbers: stored,
+                bytes: 0,
+            });
+        }
+    };
     let count = largest.len();
     match rest {
         Rest::Nothing => {
+            let stored = Arguments {
+                numbers: count,
+                bytes: 0,
+            };
             let w = next_word(line, end);
             if w.start != w.end {
-                return None;
+                return Err(stored);
             }
-            Some(Arguments {
-                numbers: count,
-                bytes: 0,
-            })
+            Ok(stored)
         }
-        Rest::Numbers(most) => {
-            let all = store_numbers(line, end, most, numbers, count)?;
-            Some(Arguments {
+        Rest::Numbers(most) => match store_numbers(line, end, most, numbers, count) {
+            Ok(all) => Ok(Arguments {
                 numbers: all,
                 bytes: 0,
-            })
-        }
-        Rest::Bytes => {
-            let stored = store(line, end, bytes)?;
-            Some(Arguments {
+            }),
+            Err(stored) => Err(Arguments {
+                numbers: stored,
+                bytes: 0,
+            }),
+        },
+        Rest::Bytes => match store(line, end, bytes) {
+            Ok(all) => Ok(Arguments {
+                numbers: count,
+                bytes: all,
+            }),
+            Err(stored) => Err(Arguments {
                 numbers: count,
                 bytes: stored,
-            })
-        }
+            }),
+        },
     }
 }

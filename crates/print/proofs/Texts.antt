@@ -31,7 +31,7 @@ digits_more (suc k) n z h =
 
 -- ---- texts one behind the other
 
-take_one_more : (t : List ℕ) (i : ℕ) → i < length t → take i t ++ (get_or t i 0 ∷ []) ≡ take (i + 1) t
+pub take_one_more : (t : List ℕ) (i : ℕ) → i < length t → take i t ++ (get_or t i 0 ∷ []) ≡ take (i + 1) t
 take_one_more t i h = sym (take-suc t i 0 h) ∙ ap (λ (k : ℕ). take k t) (sym (add-one i))
 
 module _ (f : ℕ → List ℕ) where

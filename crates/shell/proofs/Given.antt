@@ -7,7 +7,7 @@ use native.Mathlib.Nat.{add-zero, add-suc, suc-add}
 use native.Mathlib.Omega.{arith}
 use lib.ListN.{length, take, get_or}
 use lib.Seq.{get_or-take}
-use Rattle.std.specs.Prelude.{Some}
+use Rattle.std.specs.Prelude.{Ok}
 use Rattle.parse.specs.Arguments.{Given, arguments_in, Read}
 use Rattle.parse.specs.declared.arguments.Arguments as code
 use Rattle.parse.specs.declared.arguments.Rest.{Rest}
@@ -39,7 +39,7 @@ exactly largest (Numbers m) ws h e = absurd (true≢false e)
 exactly largest Bytes ws h e = counted_bytes largest ws h
 
 module _ (k : Command) (ws : List (List ℕ)) {r : code.Arguments} {n₀ n₁ b₀ b₁ : List ℕ}
-    (x : Read (arguments_in (form k).largest (form k).rest ws) (Some r) n₀ n₁ b₀ b₁) (some : length ws ≤ length n₀)
+    (x : Read (arguments_in (form k).largest (form k).rest ws) (Ok r) n₀ n₁ b₀ b₁) (some : length ws ≤ length n₀)
     (short : total ws ≤ length b₀) where
   abbrev g : Given
   g = arguments_in (form k).largest (form k).rest ws

@@ -45,7 +45,7 @@ fn execute(
         return say_bad(out, number, lent);
     };
     let form = form_of(command);
-    let Some(given) = read(line, end, form.largest, form.rest, numbers, first) else {
+    let Ok(given) = read(line, end, form.largest, form.rest, numbers, first) else {
         return say_bad(out, number, lent);
     };
     obey(

@@ -71,7 +71,7 @@ returns-in_default-read c =
       c.form_of-form.ensures.rest,
     ) at (rw c.in_default-read.is at c.read.ensures) in
     leaves_as (bad_arguments (console (held a.state.now) a.memory.now a.lent) a.number w (words_of (drop a.end a.line.now))
-    c.in-Some.command (sym c.command_of.ensures ∙ c.in-Some.is) (is_bad _ _ x.answers))
+    c.in-Some.command (sym c.command_of.ensures ∙ c.in-Some.is) (is_bad _ _ x.answers).0)
     (bad_leaves a.state.now a.memory.now a.lent c.requires.ready.0.reached c.requires.ready.0.inside w a.number
     (c.say_bad-in_default-read.ensures w))
 
@@ -102,7 +102,7 @@ obey-requires c =
     let x = rw (
       c.form_of-form.ensures.largest,
       c.form_of-form.ensures.rest,
-    ) at (rw c.in-Some-read.is at c.read.ensures) in
+    ) at (rw c.in-Ok.is at c.read.ensures) in
     let k = c.in-Some.command in
     let ws = words_of (drop a.end a.line.now) in
     let r = c.requires.ready.0 in
@@ -135,7 +135,7 @@ returns c =
     let x = rw (
       c.form_of-form.ensures.largest,
       c.form_of-form.ensures.rest,
-    ) at (rw c.in-Some-read.is at c.read.ensures) in
+    ) at (rw c.in-Ok.is at c.read.ensures) in
     let k = c.in-Some.command in
     let ws = words_of (drop a.end a.line.now) in
     let w = take (a.end - a.start) (drop a.start a.line.now) in

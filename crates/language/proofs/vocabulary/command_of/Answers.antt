@@ -1,12 +1,12 @@
 -- The command is among the rows that are left. Assumes nothing.
 use Rattle.std.proofs.Common.{refl, sym, ◌∙◌, arith}
-use Rattle.language.specs.Vocabulary.{vocabulary, among, named}
+use Rattle.language.specs.Vocabulary.{named}
 use Rattle.language.proofs.Rows.{row_found, row_passed, none_left}
 use Rattle.language.proofs.vocabulary.command_of.Goals as goal
 
 pub loop-row-init : goal.loop-row-init
-unfolding named among vocabulary
-loop-row-init c = record { many = refl; finds = refl }
+unfolding named
+loop-row-init c = record { are = refl; finds = refl }
 
 pub returns-then-is_same : goal.returns-then-is_same
 returns-then-is_same c =

@@ -5,7 +5,7 @@ use native.Mathlib.Omega.{arith}
 use lib.ListN.{length, drop}
 use Rattle.parse.specs.Line.{words_of}
 use Rattle.parse.proofs.Lines.{words_next}
-use Rattle.parse.proofs.Storing.{begun, left_as, finished, failed, one_more, one_bad}
+use Rattle.parse.proofs.Storing.{begun, left_as, finished, failed, missing, one_more, one_bad}
 use Rattle.parse.proofs.Reading.{drop_next, fixed_few, fixed_next, fixed_all}
 use Rattle.parse.proofs.Givens.{fixed_good, fixed_bad}
 use Rattle.parse.proofs.arguments.store_fixed.Goals as goal
@@ -24,7 +24,8 @@ pub returns-in_err-n : goal.returns-in_err-n
 returns-in_err-n c =
     let l = c.loop-i in
     let f = fixed_next c.next_word-w.ensures c.if-start-end.false c.args.largest.now l.i c.loop-i-test.true in
-    rw c.from_residual.ensures (fixed_bad (one_bad _ _ (left_as l.invariant.2 f) (sym c.in_err-n.ensures)))
+    let m = missing _ _ _ _ c.in_err-n.ensures.value c.from_residual.ensures.1 in
+    rw m.1 (fixed_bad (one_bad _ _ (left_as l.invariant.2 f) (sym c.value_up_to.ensures ∙ m.0)))
 
 pub loop-i-preserved : goal.loop-i-preserved
 loop-i-preserved c =
@@ -32,7 +33,8 @@ loop-i-preserved c =
     let w = c.next_word-w in
     let f = fixed_next w.ensures c.if-start-end.false c.args.largest.now l.i c.loop-i-test.true in
     let n = words_next w.ensures c.if-start-end.false in
-    (w.ensures.inside, drop_next _ _ _ l.i (l.invariant.1 ∙ n), one_more _ _ (left_as l.invariant.2 f) _ (sym c.in_ok-n.ensures))
+    let more = one_more _ _ (left_as l.invariant.2 f) _ (sym c.value_up_to.ensures ∙ c.in_ok-n.ensures.ok_part) in
+    (w.ensures.inside, drop_next _ _ _ l.i (l.invariant.1 ∙ n), more)
 
 pub returns : goal.returns
 returns c =

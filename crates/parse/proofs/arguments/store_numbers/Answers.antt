@@ -1,10 +1,10 @@
 -- `store_numbers` meets its contract. Assumes nothing.
-use mathlib.Core.Path.{sym, ap}
+use mathlib.Core.Path.{sym, ap, ◌∙◌}
 use native.Mathlib.Omega.{arith}
 use lib.ListN.{length, length-set}
 use Rattle.parse.specs.Values.{number_up_to}
 use Rattle.parse.proofs.Lines.{words_next}
-use Rattle.parse.proofs.Storing.{begun, left_as, finished, one_more, one_bad}
+use Rattle.parse.proofs.Storing.{begun, left_as, finished, missing, one_more, one_bad}
 use Rattle.parse.proofs.Reading.{each_over, each_next}
 use Rattle.parse.proofs.arguments.store_numbers.Goals as goal
 
@@ -19,7 +19,8 @@ returns-then-start-stop c =
 pub returns-in_err-n : goal.returns-in_err-n
 returns-in_err-n c =
     let n = each_next c.next_word-w.ensures c.if-start-stop.false (number_up_to c.args.largest) in
-    rw c.from_residual.ensures (one_bad _ _ (left_as c.loop-at.invariant.2 n) (sym c.in_err-n.ensures))
+    let m = missing _ _ _ _ c.in_err-n.ensures.value c.from_residual.ensures.1 in
+    rw m.1 (one_bad _ _ (left_as c.loop-at.invariant.2 n) (sym c.value_up_to.ensures ∙ m.0))
 
 pub bounds-numbers-end : goal.bounds-numbers-end
 bounds-numbers-end c =
@@ -32,5 +33,5 @@ loop-at-preserved c =
     let w = c.next_word-w in
     let n = each_next w.ensures c.if-start-stop.false (number_up_to c.args.largest) in
     let l = ap length (words_next w.ensures c.if-start-stop.false) in
-    let more = one_more _ _ (left_as loop.invariant.2 n) _ (sym c.in_ok-n.ensures) in
+    let more = one_more _ _ (left_as loop.invariant.2 n) _ (sym c.value_up_to.ensures ∙ c.in_ok-n.ensures.ok_part) in
     (w.ensures.inside, simp length-set (omega (arith, loop.invariant.1, l)), more)

@@ -2,6 +2,7 @@
 use Prim.Native.Nat.{◌≤◌, ◌-◌}
 use native.Mathlib.Omega.{arith}
 use lib.ListN.{length, drop, take}
+use Rattle.std.proofs.lemmas.Result.{err_from_is_err_and}
 use Rattle.print.proofs.Puts.{put_length}
 use Rattle.parse.specs.Values.{bytes_of}
 use Rattle.parse.proofs.Lines.{word_most}
@@ -25,7 +26,8 @@ store_word-requires c =
 pub returns-in_err-end : goal.returns-in_err-end
 returns-in_err-end c =
     let n = each_next c.next_word-w.ensures c.if-start-stop.false bytes_of in
-    rw c.from_residual.ensures (stored_last _ _ (left_as c.loop-at.invariant.2 n) c.in_err-end.ensures)
+    let p = err_from_is_err_and c.from_residual.result c.from_residual.ensures.1 in
+    rw (p.1, p.2) (stored_last _ _ (left_as c.loop-at.invariant.2 n) c.in_err-end.ensures)
 
 pub loop-at-preserved : goal.loop-at-preserved
 loop-at-preserved c =
