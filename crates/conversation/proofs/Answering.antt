@@ -55,6 +55,7 @@ module _ (f : Form) (line : List ℕ) {o o₁ : List ℕ} {p m : ℕ} (s : ℕ) 
           text = w;
           good = l.good;
           refusal = l.refusal;
+          numbered = l.numbered;
           lent = l.lent;
           controller = l.controller;
           memory = l.memory;

@@ -36,11 +36,11 @@ read_inside (Err x) buf e h = tt
 -- the reader stays inside its buffers, and that of the line keeps its length
 took_inside : {l : Lines} {chunk line₀ line₁ : List ℕ} {t : lines.Step} → Took l chunk line₀ line₁ t → Inside l
     → Inside t.lines × lines_specs.Short t.found
-took_inside {l} (by_read got m q h f s) i = filled_inside l got f i h
+took_inside {l} (by_read got m q f e h s) i = filled_inside l got f i h
 took_inside (in_chunk x) i = (x.inside, x.short)
 
 took_length : {l : Lines} {chunk line₀ line₁ : List ℕ} {t : lines.Step} → Took l chunk line₀ line₁ t → length line₁ ≡ length line₀
-took_length (by_read got m q h f s) = ap length s
+took_length (by_read got m q f e h s) = ap length s
 took_length (in_chunk x) = put_length x.buffer
 
 module _ (s : Conversation) (place : ℕ) {words memory chunk line₀ line₁ out : List ℕ} {t : lines.Step} (k : Kept s words)

@@ -6,7 +6,7 @@ use Rattle.form.specs.Shown.{shown}
 use Rattle.form.specs.declared.Form.{Form}
 use Rattle.language.specs.Vocabulary.{memory_bytes}
 use Rattle.language.specs.Line.{Answered}
-use Rattle.stateless.specs.Leaving.{good_of, refused_by}
+use Rattle.stateless.specs.Leaving.{good_of, refused_by, Numbered}
 use Rattle.conversation.specs.declared.Shown.{Shown}
 
 -- an answer shown in a form from a place on, the words that hold the controller, and the memory
@@ -15,6 +15,7 @@ pub record Shows (a : Answered) (form : Form) (line before : List ℕ) (place : 
   pub text : Put before place (shown form line a.text) after r.end
   pub good : good_of r.verdict ≡ a.good
   pub refusal : refused_by r.verdict ≡ a.refusal
+  pub numbered : Numbered r.verdict
   pub lent : r.lent ≡ a.console.lent
   pub controller : held words ≡ a.console.controller
   pub memory : bytes ≡ a.console.memory

@@ -1,7 +1,8 @@
 -- The steps of a conversation.
-use Rattle.std.specs.Prelude.{ℕ, ◌≤◌, true, List, ◌≡◌, length, take, ⊤, Result, IfOk}
+use Rattle.std.specs.Prelude.{ℕ, ◌≤◌, true, List, ◌≡◌, length, take, ⊤, Result, IfOk, IfErr}
 use Rattle.store.specs.Held.{held, Reached}
 use Rattle.stream.specs.declared.Errno.{Errno}
+use Rattle.stream.specs.Stops.{Stops}
 use Rattle.lines.specs.Sizes.{chunk_bytes, held_bytes}
 use Rattle.lines.specs.Inside.{Inside}
 use Rattle.lines.specs.Steps.{no_line, filled_by, Scanned}
@@ -38,10 +39,11 @@ pub record Sized (m c l o : List ℕ) : Type 0 where
   pub line : length l ≡ held_bytes
   pub out : length o ≡ out_bytes
 
--- a step of the reader of lines: by a read that gave some bytes or an error, where the chunk is used up and more may come; or in the chunk
+-- a step of the reader of lines: by a read that gave some bytes or an error that may stop a run, where the chunk is used up and more may
+-- come; or in the chunk
 pub data Took (l : Lines) (chunk line₀ line₁ : List ℕ) (r : lines.Step) : Type 0 where
-  by_read : (got : Result ℕ Errno) → l.more ≡ true → l.read ≡ l.count → IfOk got (λ n. n ≤ chunk_bytes) → r ≡ filled_by l got
-      → line₁ ≡ line₀ → Took l chunk line₀ line₁ r
+  by_read : (got : Result ℕ Errno) → l.more ≡ true → l.read ≡ l.count → r ≡ filled_by l got → IfErr got Stops
+      → IfOk got (λ n. n ≤ chunk_bytes) → line₁ ≡ line₀ → Took l chunk line₀ line₁ r
   in_chunk : Scanned l chunk line₀ line₁ r → Took l chunk line₀ line₁ r
 
 -- the buffers that a step may leave otherwise

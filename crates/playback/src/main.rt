@@ -77,7 +77,7 @@ fn run(rt: &impl Eprint, output: &mut impl Write, setup: &mut impl Read, trace: 
     let mut controller = fresh.controller;
     match setup::run(setup, output, &mut controller.words, &mut memory) {
         Ok(lent) => play::run(rt, trace, output, &mut controller.words, &mut memory, lent),
-        Err(fault) => say_fault(rt, fault),
+        Err(stopped) => say_fault(rt, stopped.fault),
     }
 }
 

@@ -1,8 +1,7 @@
 // The set-up: console lines that make the controller and the memory that a trace is replayed on.
 #![tactic(auto)]
 
-ghost use Rattle.std.specs.Prelude.{◌≡◌, ◌≤◌, length, IfOk, MatchResult};
-ghost use Rattle.rules.specs.Refusal as refusals;
+ghost use Rattle.std.specs.Prelude.{◌≡◌, ◌≤◌, length, MatchResult};
 ghost use Rattle.store.specs.Held.{Reached};
 ghost use Rattle.print.specs.Put.{Put};
 ghost use Rattle.lines.specs.Sizes.{held_bytes};
@@ -16,7 +15,6 @@ use form::Form;
 use language::sizes::{MEMORY_BYTES, NUMBERS, WALK_BYTES};
 use lines::{CHUNK_BYTES, HELD_BYTES};
 use parse::line::next_word;
-use rules::refusal::Refusal;
 use stateless::speak::Verdict;
 use std::io::{Read, Write};
 use store::WORDS;
@@ -31,6 +29,13 @@ pub enum Fault {
     Unwritten { line: u64, error: Errno },
 }
 
+// Where a set-up is stopped: how many bytes of the memory are lent, and why it is.
+#[derive(Clone, Copy, Debug)]
+pub struct Stopped {
+    pub lent: usize,
+    pub fault: Fault,
+}
+
 // A set-up on its way, and whether its file goes on.
 #[derive(Clone, Copy)]
 struct Progress {
@@ -39,15 +44,15 @@ struct Progress {
 }
 
 // What is told of a line whose call was refused, at the start of `out`.
-fn put_refused(line: &[u8], number: u64, refusal: Refusal, out: &mut [u8]) -> usize
+fn put_refused(line: &[u8], number: u64, refusal: u64, out: &mut [u8]) -> usize
     requires { (length line.now ≤ held_bytes) × (out_bytes ≡ length out.old) }
-    ensures { Put out.old 0 (refused_line line.now number (refusals.number refusal)) out.new result
+    ensures { Put out.old 0 (refused_line line.now number refusal) out.new result
         × (result ≤ length out.old) }
 {
     let word = next_word(line, 0);
     let start = word.start;
     let end = word.end;
-    put_setup_line(out, 0, number, &line[start..end], refusal.number())
+    put_setup_line(out, 0, number, &line[start..end], refusal)
 }
 
 // Tells it.
@@ -55,7 +60,7 @@ fn tell(
     output: &mut impl Write,
     line: &[u8],
     number: u64,
-    refusal: Refusal,
+    refusal: u64,
     out: &mut [u8],
 ) -> Result<(), Fault>
     requires { (length line.now ≤ held_bytes) × (out_bytes ≡ length out.old) }
@@ -87,29 +92,35 @@ fn judge(
     }
 }
 
-// How it stands after a step; a line that ended stands at the start of `line`.
+// How it stands after a step, by which it may be stopped; a line that ended stands at the start of `line`.
 fn after(
     output: &mut impl Write,
     step: Step,
     line: &[u8],
     out: &mut [u8],
-) -> Result<Progress, Fault>
+) -> Result<Progress, Stopped>
     requires { Short step.event × (length line.now ≡ held_bytes) × (out_bytes ≡ length out.old) }
-    ensures { IfOk result (λ p. p.conversation ≡ step.conversation) }
+    ensures { MatchResult result (λ p. p.conversation ≡ step.conversation) (λ s. s.lent ≡ step.conversation.lent) }
 {
     let conversation = step.conversation;
+    let lent = conversation.lent;
     let ended = conversation.lines.ended;
     let open = match step.event {
         Event::Line { length, verdict } => {
-            judge(output, verdict, &line[..length], ended, out)?;
+            if let Err(fault) = judge(output, verdict, &line[..length], ended, out) {
+                return Err(Stopped { lent, fault });
+            }
             true
         }
         Event::Nothing => true,
         Event::End => false,
         Event::Failed(error) => {
-            return Err(Fault::Unread {
-                line: ended.wrapping_add(1),
-                error,
+            return Err(Stopped {
+                lent,
+                fault: Fault::Unread {
+                    line: ended.wrapping_add(1),
+                    error,
+                },
             });
         }
     };
@@ -128,9 +139,9 @@ fn next(
     out: &mut [u8; OUT_BYTES],
     first: &mut [u8; WALK_BYTES],
     second: &mut [u8; WALK_BYTES],
-) -> Result<Progress, Fault>
+) -> Result<Progress, Stopped>
     requires { Kept conversation state.old }
-    ensures { MatchResult result (λ p. Kept p.conversation state.new) (λ _. Reached state.new) }
+    ensures { MatchResult result (λ p. Kept p.conversation state.new) (λ s. Reached state.new × (s.lent ≤ memory_bytes)) }
 {
     let mut numbers = [0u64; NUMBERS];
     let step = conversation::next(
@@ -150,17 +161,17 @@ fn next(
     after(output, step, line, out)
 }
 
-// Answers all lines, or those before one that stops it, and tells how many bytes of the memory are lent. A proved loop has to end: the
+// Answers all lines, or those before one that stops it, and tells how many bytes of the memory are lent then. A proved loop has to end: the
 // turns are bounded by a number that no run uses up.
 pub fn run(
     input: &mut impl Read,
     output: &mut impl Write,
     state: &mut [u64; WORDS],
     memory: &mut [u8; MEMORY_BYTES],
-) -> Result<usize, Fault>
+) -> Result<usize, Stopped>
     requires { Reached state.old }
     ensures reached { Reached state.new }
-    ensures lent { IfOk result (λ n. n ≤ memory_bytes) }
+    ensures lent { MatchResult result (λ n. n ≤ memory_bytes) (λ s. s.lent ≤ memory_bytes) }
 {
     let mut chunk = [0u8; CHUNK_BYTES];
     let mut line = [0u8; HELD_BYTES];

@@ -62,6 +62,7 @@ spoke_leaves w n p =
       text = p.printed.text;
       good = p.printed.good;
       refusal = p.printed.refusal;
+      numbered = p.printed.numbered;
       lent = p.printed.lent;
       controller = p.controller;
       memory = p.memory;
@@ -85,6 +86,7 @@ module _ (words : List ℕ) (m : Memory) (lent : ℕ) (h : Reached words) (i : l
         text = put_none o 0;
         good = refl;
         refusal = refl;
+        numbered = tt;
         lent = refl;
         controller = refl;
         memory = refl;

@@ -10,7 +10,7 @@ use Rattle.language.specs.Vocabulary.{memory_bytes, walk_bytes, form}
 use Rattle.language.specs.State.{Console}
 use Rattle.language.specs.Replies.{Said}
 use Rattle.language.specs.Line.{Answered}
-use Rattle.stateless.specs.Leaving.{firsts, Narrow, answer_bytes, good_of, refused_by, Printed}
+use Rattle.stateless.specs.Leaving.{firsts, Narrow, answer_bytes, good_of, refused_by, Numbered, Printed}
 use Rattle.stateless.specs.declared.speak.Answered as code
 
 -- an answer, the words that hold the controller, and the memory
@@ -18,6 +18,7 @@ pub record Leaves (a : Answered) (before after : List ℕ) (r : code.Answered) (
   pub text : Put before 0 a.text after r.length
   pub good : good_of r.verdict ≡ a.good
   pub refusal : refused_by r.verdict ≡ a.refusal
+  pub numbered : Numbered r.verdict
   pub lent : r.lent ≡ a.console.lent
   pub controller : held words ≡ a.console.controller
   pub memory : bytes ≡ a.console.memory

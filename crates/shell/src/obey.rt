@@ -20,7 +20,7 @@ use stateful::trace_replay::replay_trace;
 use stateless::part::in_memory;
 use stateless::peek::peek;
 use stateless::poke::poke;
-use stateless::speak::{Answered, say, say_bad, say_reply};
+use stateless::speak::{Answered, say, say_reply};
 use stateless::walk::walk;
 use store::WORDS;
 
@@ -31,15 +31,16 @@ fn obey_call(
     k: Call,
     a: &[u64; NUMBERS],
     word: &[u8],
+    number: u64,
     out: &mut [u8],
 ) -> Answered
     requires { Ready state.old memory.old lent word.now out.old × Narrow (call_form k) 0 a.now }
-    ensures { (n : ℕ) → Spoke (on_lent (console (held state.old) memory.old lent)
+    ensures { Spoke (on_lent (console (held state.old) memory.old lent)
         (λ c m. calls_made c m k (firsts (length (call_form k)) 0 a.now)))
-        word.now n out.old out.new result state.new memory.new }
+        word.now number out.old out.new result state.new memory.new }
 {
     let reply = call(state, &mut memory[..lent], k, a);
-    say_reply(out, word, reply, lent)
+    say_reply(out, word, number, Some(reply), lent)
 }
 
 fn obey_on_part(
@@ -57,10 +58,8 @@ fn obey_on_part(
         (λ c m. parts_used c m k (firsts (length (on_part_form k)) 0 a.now)))
         word.now number out.old out.new result state.now memory.new }
 {
-    let Some(reply) = in_memory(&mut memory[..lent], k, a) else {
-        return say_bad(out, number, lent);
-    };
-    say_reply(out, word, reply, lent)
+    let reply = in_memory(&mut memory[..lent], k, a);
+    say_reply(out, word, number, reply, lent)
 }
 
 fn obey_look(
@@ -70,15 +69,16 @@ fn obey_look(
     k: Look,
     a: &[u64; NUMBERS],
     word: &[u8],
+    number: u64,
     out: &mut [u8],
 ) -> Answered
     requires { Ready state.now memory.now lent word.now out.old × Narrow (look_form k) 0 a.now }
-    ensures { (n : ℕ) → Spoke (on_lent (console (held state.now) memory.now lent)
+    ensures { Spoke (on_lent (console (held state.now) memory.now lent)
         (λ c m. s.reply (s.told (looked c k (firsts (length (look_form k)) 0 a.now))) c m))
-        word.now n out.old out.new result state.now memory.now }
+        word.now number out.old out.new result state.now memory.now }
 {
     let reply = look(state, k, a);
-    say_reply(out, word, reply, lent)
+    say_reply(out, word, number, Some(reply), lent)
 }
 
 fn obey_lend(
@@ -118,10 +118,8 @@ fn obey_poke(
         (λ c m. poked c m width (get_or (take count a.now) 0 0) (drop 1 (take count a.now))))
         word.now number out.old out.new result state.now memory.new }
 {
-    let Some(reply) = poke(&mut memory[..lent], a[0], &a[1..count], width) else {
-        return say_bad(out, number, lent);
-    };
-    say_reply(out, word, reply, lent)
+    let reply = poke(&mut memory[..lent], a[0], &a[1..count], width);
+    say_reply(out, word, number, reply, lent)
 }
 
 fn obey_peek(
@@ -175,7 +173,7 @@ fn say_first(out: &mut [u8], word: &[u8], a: &[u64], count: usize, lent: usize) 
     ensures { (n : ℕ) → Printed (s.told (take count a.now)) word.now n
         out.old out.new lent result }
 {
-    say(out, word, Ok(()), &a[..count], b"", lent)
+    say(out, word, 0, &a[..count], b"", lent)
 }
 
 fn obey_walk(
@@ -221,9 +219,9 @@ pub(super) fn obey(
         word.now number out.old out.new result state.new memory.new }
 {
     match command {
-        Command::Call(k) => obey_call(state, memory, lent, k, numbers, word, out),
+        Command::Call(k) => obey_call(state, memory, lent, k, numbers, word, number, out),
         Command::OnPart(k) => obey_on_part(state, memory, lent, k, numbers, word, number, out),
-        Command::Look(k) => obey_look(state, memory, lent, k, numbers, word, out),
+        Command::Look(k) => obey_look(state, memory, lent, k, numbers, word, number, out),
         Command::Lend => obey_lend(state, memory, lent, numbers, word, out),
         Command::Poke => obey_poke(state, memory, lent, 1, numbers, count, word, number, out),
         Command::Poke64 => obey_poke(state, memory, lent, 8, numbers, count, word, number, out),

@@ -33,12 +33,12 @@ pub calling_made : (f : Answer → List ℕ) (a : Answer) (c d : Controller) (m 
 calling_made f a c d m m₁ x r e h =
     ap (λ (s : Said). reply s d m₁) e ∙ ap (λ (o : Outcome). reply (changed (f o.answer)) o.controller o.memory) h
 
--- a call that answers by its refusal alone
-pub call_made : (a : Result ⊤ Refusal) (c d : Controller) (m : Memory) (x : Call) (r : short.Reply) → r ≡ changed_reply a 1
-    → outcome (of_number (code a)) d m ≡ perform c m x → reply (heard r) d m ≡ called c m x
-call_made a c d m x r e h =
+-- a call that answers by its refusal alone, whose number is n
+pub call_made : {n : ℕ} (a : Result ⊤ Refusal) (c d : Controller) (m : Memory) (x : Call) (r : short.Reply) → n ≡ code a
+    → r ≡ changed_reply n 1 → outcome (of_number (code a)) d m ≡ perform c m x → reply (heard r) d m ≡ called c m x
+call_made a c d m x r k e h =
     calling_made (λ b. number_of b ∷ []) (of_number (code a)) c d m m x r
-    (ap heard e ∙ ap (λ (i : ℕ). changed (i ∷ [])) (sym (number_of_lem (code a)))) h
+    (ap heard e ∙ ap (λ (i : ℕ). changed (i ∷ [])) (k ∙ sym (number_of_lem (code a)))) h
 
 -- a bit by std's conversion
 pub bit_is : (b : Bool) → from_bool b ≡ bit_of b

@@ -15,7 +15,7 @@ use language::command::Call;
 use language::sizes::NUMBERS;
 use queues::create::{create_cq, create_sq};
 use queues::delete::{delete_cq, delete_sq};
-use rules::refusal::Refusal;
+use rules::refusal::{Refusal, code};
 use starter::start;
 use stateless::reply::{Reply, changed, told};
 use store::{WORDS, reset};
@@ -62,7 +62,7 @@ fn started(answer: Result<Started, Refusal>) -> Reply
             verdict as u64,
             number,
         ]),
-        Err(refusal) => changed(Err(refusal), 8),
+        Err(refusal) => changed(refusal.number(), 8),
     }
 }
 
@@ -72,7 +72,7 @@ fn finished(answer: Result<Finished, Refusal>) -> Reply
 {
     match answer {
         Ok(Finished { slot, number }) => told(&[0, slot as u64, number]),
-        Err(refusal) => changed(Err(refusal), 3),
+        Err(refusal) => changed(refusal.number(), 3),
     }
 }
 
@@ -84,13 +84,16 @@ pub fn call(state: &mut [u64; WORDS], memory: &mut [u8], k: Call, a: &[u64; NUMB
         × Reached state.new × (result.count ≤ 16) }
 {
     match k {
-        Call::Controller => changed(reset(state, a[0], a[1] as u32), 1),
-        Call::CreateCq => changed(create_cq(state, memory, a[0], a[1], a[2]), 1),
-        Call::CreateSq => changed(create_sq(state, memory, a[0], a[1], a[2], a[3], a[4]), 1),
-        Call::DeleteCq => changed(delete_cq(state, a[0]), 1),
-        Call::DeleteSq => changed(delete_sq(state, a[0]), 1),
-        Call::Tail => changed(tail_write(state, a[0], a[1]), 1),
-        Call::Head => changed(head_write(state, a[0], a[1]), 1),
+        Call::Controller => changed(code(reset(state, a[0], a[1] as u32)), 1),
+        Call::CreateCq => changed(code(create_cq(state, memory, a[0], a[1], a[2])), 1),
+        Call::CreateSq => changed(
+            code(create_sq(state, memory, a[0], a[1], a[2], a[3], a[4])),
+            1,
+        ),
+        Call::DeleteCq => changed(code(delete_cq(state, a[0])), 1),
+        Call::DeleteSq => changed(code(delete_sq(state, a[0])), 1),
+        Call::Tail => changed(code(tail_write(state, a[0], a[1])), 1),
+        Call::Head => changed(code(head_write(state, a[0], a[1])), 1),
         Call::Start => started(start(state, memory)),
         Call::Finish => finished(finish(state, memory, a[0], a[1], a[2] as u32)),
     }

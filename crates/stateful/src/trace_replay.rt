@@ -20,7 +20,7 @@ fn say_records(out: &mut [u8], word: &[u8], records: u64, answers: &[u8], lent: 
         out.old out.new lent result }
 {
     let numbers = [0, records];
-    say(out, word, Ok(()), &numbers, answers, lent)
+    say(out, word, 0, &numbers, answers, lent)
 }
 
 fn say_refused(out: &mut [u8], word: &[u8], refusal: Refusal, lent: usize) -> Answered
@@ -29,7 +29,7 @@ fn say_refused(out: &mut [u8], word: &[u8], refusal: Refusal, lent: usize) -> An
         out.old out.new lent result }
 {
     let numbers = [refusal.number(), 0];
-    say(out, word, Err(refusal), &numbers, b"", lent)
+    say(out, word, refusal.number(), &numbers, b"", lent)
 }
 
 // Replays a trace, with a room for its answer records.

@@ -5,8 +5,6 @@ use Prim.Native.Nat.{ℕ, zero, suc, ◌+◌, ◌*◌, ◌≤◌}
 use native.Mathlib.Omega.{arith}
 use lib.ListN.{length, take, drop, length-append}
 use lib.Seq.{drop-cons, take_at}
-use Rattle.std.specs.Prelude.{Ok}
-use Rattle.rules.specs.Refusal.{code}
 use Rattle.parse.specs.Line.{most_bytes}
 use Rattle.print.specs.Text.{numbers, hex_word, line_end}
 use Rattle.print.proofs.Texts.{numbers_most, hex_word_most}
@@ -50,11 +48,12 @@ pub printed_lent : {s : Said} {w : List ℕ} {n : ℕ} {o o₁ : List ℕ} {k j 
     → Printed s w n o o₁ j r
 printed_lent {s} {w} {n} {o} {o₁} {r = r} e p = subst (λ (x : ℕ). Printed s w n o o₁ x r) e p
 
-pub heard_firsts : (r : short.Reply) → r.count ≤ length r.numbers → say (code r.change) (take r.count r.numbers) [] ≡ heard r
+pub heard_firsts : (r : short.Reply) → r.count ≤ length r.numbers → say r.refusal (take r.count r.numbers) [] ≡ heard r
 heard_firsts r k = rw (firsts_are r.count r.numbers k)
 
 -- numbers put at the start of a reply
-pub says_told : (n : ℕ) (ns rest : List ℕ) → length ns ≡ n → n ≤ 16 → Says (told ns) (record { change = Ok tt; count = n; numbers = ns ++ rest })
+pub says_told : (n : ℕ) (ns rest : List ℕ) → length ns ≡ n → n ≤ 16
+    → Says (told ns) (record { refusal = 0; count = n; numbers = ns ++ rest })
 says_told n ns rest e h =
     record {
       is = ap told (firsts_are n (ns ++ rest) (omega (arith, length-append ns rest)) ∙ take_at ns rest n e);

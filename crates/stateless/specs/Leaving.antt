@@ -1,7 +1,6 @@
 -- What the code leaves: its buffers and its answers beside the definitions.
-use Rattle.std.specs.Prelude.{ℕ, zero, suc, ◌≤◌, ◌*◌, Bool, true, false, List, [], ◌∷◌, ◌≡◌, ⊤, get_or, replicate, Option, Some, None, Result, Ok}
-use Rattle.rules.specs.Refusal.{number, code}
-use Rattle.rules.specs.declared.refusal.Refusal.{Refusal}
+use Rattle.std.specs.Prelude.{ℕ, zero, suc, ◌-◌, ◌*◌, ◌<◌, ◌≤◌, min, Bool, true, false, ◌≡◌, ⊤, Option, Some, None}
+use Rattle.std.specs.Prelude.{List, [], ◌∷◌, ◌++◌, length, take, get_or, replicate}
 use Rattle.le.specs.Le.{le_at}
 use Rattle.print.specs.Put.{Put}
 use Rattle.language.specs.Replies.{Said, say, bad, is_good, refusal_of, texted}
@@ -35,19 +34,23 @@ answer_bytes = 16384
 
 -- what a short reply stands for
 abbrev pub heard : short.Reply → Said
-heard r = say (code r.change) (firsts r.count 0 r.numbers) []
+heard r = say r.refusal (firsts r.count 0 r.numbers) []
 
 -- and where there is none the line is a bad one
 abbrev pub heard_or_bad : Option short.Reply → Said
 heard_or_bad (Some r) = heard r
 heard_or_bad None = bad
 
--- the number of a refusal and zeros behind it, so many in all: told, or that of a change
-abbrev pub refusal_reply : Refusal → ℕ → short.Reply
-refusal_reply r count = record { change = Ok tt; count = count; numbers = number r ∷ replicate 15 0 }
+-- numbers, of more than 16 the first 16, and zeros behind them
+abbrev pub told_reply : List ℕ → short.Reply
+told_reply ns = let n = min (length ns) 16 in record { refusal = 0; count = n; numbers = take n ns ++ replicate (16 - n) 0 }
 
-abbrev pub changed_reply : Result ⊤ Refusal → ℕ → short.Reply
-changed_reply answer count = record { change = answer; count = count; numbers = code answer ∷ replicate 15 0 }
+-- the number of a refusal and zeros behind it, so many in all: told, or that of a change
+abbrev pub refusal_reply : ℕ → ℕ → short.Reply
+refusal_reply n count = record { refusal = 0; count = count; numbers = n ∷ replicate 15 0 }
+
+abbrev pub changed_reply : ℕ → ℕ → short.Reply
+changed_reply n count = record { refusal = n; count = count; numbers = n ∷ replicate 15 0 }
 
 pub record Says (s : Said) (r : short.Reply) : Type 0 where
   pub is : heard r ≡ s
@@ -57,17 +60,24 @@ pub record Says (s : Said) (r : short.Reply) : Type 0 where
 abbrev pub good_of : Verdict → Bool
 good_of V.Good = true
 good_of V.Bad = false
-good_of (V.Refused r) = true
+good_of (V.Refused n) = true
 
 abbrev pub refused_by : Verdict → ℕ
 refused_by V.Good = 0
 refused_by V.Bad = 0
-refused_by (V.Refused r) = number r
+refused_by (V.Refused n) = n
+
+-- nothing is refused by the number 0
+abbrev pub Numbered : Verdict → Type 0
+Numbered V.Good = ⊤
+Numbered V.Bad = ⊤
+Numbered (V.Refused n) = 0 < n
 
 -- an answer printed at the start of a buffer, given its word and the line's number
 pub record Printed (s : Said) (word : List ℕ) (n : ℕ) (before after : List ℕ) (count : ℕ) (r : speak.Answered) : Type 0 where
   pub text : Put before 0 (texted word n s) after r.length
   pub good : good_of r.verdict ≡ is_good s
   pub refusal : refused_by r.verdict ≡ refusal_of s
+  pub numbered : Numbered r.verdict
   pub lent : r.lent ≡ count
   pub short : r.length ≤ answer_bytes

@@ -17,7 +17,7 @@ use entry::completion::Completion;
 use entry::submission::Submission;
 use language::command::OnPart;
 use language::sizes::NUMBERS;
-use rules::refusal::Refusal;
+use rules::refusal::{Refusal, code};
 
 // The entry that the numbers of a line give, behind place and room.
 fn submission_of(a: &[u64; NUMBERS]) -> Submission
@@ -63,7 +63,7 @@ fn of_submission(answer: Result<Submission, Refusal>) -> Reply
             e.cdw14 as u64,
             e.cdw15 as u64,
         ]),
-        Err(refusal) => told_refusal(refusal, 15),
+        Err(refusal) => told_refusal(refusal.number(), 15),
     }
 }
 
@@ -80,7 +80,7 @@ fn of_completion(answer: Result<(Completion, u8), Refusal>) -> Reply
             e.status as u64,
             phase as u64,
         ]),
-        Err(refusal) => told_refusal(refusal, 7),
+        Err(refusal) => told_refusal(refusal.number(), 7),
     }
 }
 
@@ -89,7 +89,7 @@ fn of_waiting(answer: Result<u64, Refusal>) -> Reply
 {
     match answer {
         Ok(n) => told(&[0, n]),
-        Err(refusal) => told_refusal(refusal, 2),
+        Err(refusal) => told_refusal(refusal.number(), 2),
     }
 }
 
@@ -118,9 +118,9 @@ fn on_part(part: &mut [u8], k: OnPart, a: &[u64; NUMBERS]) -> Reply
             part.fill(a[2] as u8);
             told(&[part.len() as u64])
         }
-        OnPart::WriteSqe => changed(entry::submission::write(part, submission_of(a)), 1),
+        OnPart::WriteSqe => changed(code(entry::submission::write(part, submission_of(a))), 1),
         OnPart::ReadSqe => of_submission(entry::submission::read(part)),
-        OnPart::WriteCqe => changed(write_cqe(part, a), 1),
+        OnPart::WriteCqe => changed(code(write_cqe(part, a)), 1),
         OnPart::ReadCqe => of_completion(entry::completion::read(part)),
         OnPart::Waiting => of_waiting(ring::reader::read(part, a[2], a[3], a[4])),
     }

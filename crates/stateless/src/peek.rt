@@ -19,5 +19,5 @@ pub fn peek(memory: &[u8], a: &[u64; NUMBERS], word: &[u8], number: u64, out: &m
     let Some((from, to)) = part_of(memory, a[0], a[1]) else {
         return say_bad(out, number, memory.len());
     };
-    say(out, word, Ok(()), &[], &memory[from..to], memory.len())
+    say(out, word, 0, &[], &memory[from..to], memory.len())
 }

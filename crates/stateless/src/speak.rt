@@ -1,31 +1,30 @@
 // Answers, printed at the start of a buffer once it is known what they are.
-ghost use Rattle.std.specs.Prelude.{List, [], ℕ, true, ◌≡◌, ◌≤◌, ◌+◌, length};
-ghost use Rattle.rules.specs.Refusal.{code};
+ghost use Rattle.std.specs.Prelude.{List, [], ℕ, true, ◌≡◌, ◌≤◌, ◌+◌, length, IfSome};
 ghost use Rattle.parse.specs.Line.{most_bytes};
 ghost use Rattle.print.specs.Put.{Put};
 ghost use Rattle.language.specs.Replies as s;
-ghost use Rattle.stateless.specs.Leaving.{heard, good_of, refused_by, Printed, answer_bytes};
+ghost use Rattle.stateless.specs.Leaving.{heard, heard_or_bad, good_of, refused_by, Numbered, Printed, answer_bytes};
 
 use crate::reply::Reply;
 use print::{put, put_bad, put_end, put_hex_word, put_numbers};
-use rules::refusal::Refusal;
 
-// What came of a line: it was good; it was bad; or a change that it asked for, of the controller or of an entry, was refused.
+// What came of a line: it was good; it was bad; or a change that it asked for, of the controller or of an entry, was refused, by a number
+// above 0. It is a number and no `Refusal`, since any may be said.
 #[derive(Clone, Copy)]
 pub enum Verdict {
     Good,
     Bad,
-    Refused(Refusal),
+    Refused(u64),
 }
 
 impl Verdict {
-    // Of a line that is no bad one, by the answer of the change that it asked for.
-    fn of(change: Result<(), Refusal>) -> Verdict
-        ensures { (good_of result ≡ true) × (refused_by result ≡ code change) }
+    // Of a line that is no bad one, by the number by which the change that it asked for was refused, 0 for none.
+    fn of(refusal: u64) -> Verdict
+        ensures { (good_of result ≡ true) × (refused_by result ≡ refusal) × Numbered result }
     {
-        match change {
-            Ok(()) => Verdict::Good,
-            Err(refusal) => Verdict::Refused(refusal),
+        match refusal {
+            0 => Verdict::Good,
+            _ => Verdict::Refused(refusal),
         }
     }
 }
@@ -53,19 +52,19 @@ fn put_sentence(out: &mut [u8], word: &[u8], numbers: &[u64], bytes: &[u8]) -> u
 pub fn say(
     out: &mut [u8],
     word: &[u8],
-    change: Result<(), Refusal>,
+    refusal: u64,
     numbers: &[u64],
     bytes: &[u8],
     lent: usize,
 ) -> Answered
     requires { (length (s.sentence word.now numbers.now bytes.now) ≤ answer_bytes) × (answer_bytes ≤ length out.old) }
-    ensures { (n : ℕ) → Printed (s.say (code change) numbers.now bytes.now) word.now n
+    ensures { (n : ℕ) → Printed (s.say refusal numbers.now bytes.now) word.now n
         out.old out.new lent result }
 {
     Answered {
         length: put_sentence(out, word, numbers, bytes),
         lent,
-        verdict: Verdict::of(change),
+        verdict: Verdict::of(refusal),
     }
 }
 
@@ -81,12 +80,22 @@ pub fn say_bad(out: &mut [u8], number: u64, lent: usize) -> Answered
     }
 }
 
-// A short reply.
-pub fn say_reply(out: &mut [u8], word: &[u8], reply: Reply, lent: usize) -> Answered
-    requires { (reply.count ≤ 16) × (length word.now ≤ most_bytes) × (answer_bytes ≤ length out.old) }
-    ensures { (n : ℕ) → Printed (heard reply) word.now n out.old out.new lent result }
+// A short reply, which is said alike whatever the line's number is; or, where there is none, that the line of a number is a bad one.
+pub fn say_reply(
+    out: &mut [u8],
+    word: &[u8],
+    number: u64,
+    reply: Option<Reply>,
+    lent: usize,
+) -> Answered
+    requires { IfSome reply (λ r. r.count ≤ 16) × (length word.now ≤ most_bytes) × (answer_bytes ≤ length out.old) }
+    ensures printed { Printed (heard_or_bad reply) word.now number out.old out.new lent result }
+    ensures good { IfSome reply (λ r. (n : ℕ) → Printed (heard r) word.now n out.old out.new lent result) }
 {
+    let Some(reply) = reply else {
+        return say_bad(out, number, lent);
+    };
     let numbers = reply.numbers;
     let count = reply.count;
-    say(out, word, reply.change, &numbers[..count], b"", lent)
+    say(out, word, reply.refusal, &numbers[..count], b"", lent)
 }

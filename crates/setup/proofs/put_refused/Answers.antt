@@ -1,6 +1,5 @@
 -- The line's number, its first word and the refusal have room, and are what is told. Assumes nothing.
 use Rattle.std.proofs.Common.{ℕ, ◌-◌, List, take, drop, ap, arith}
-use Rattle.rules.specs.Refusal as refusals
 use Rattle.parse.proofs.Lines.{word_most}
 use Rattle.print.proofs.Puts.{put_as}
 use Rattle.transcript.specs.Setup.{setup_line}
@@ -15,7 +14,7 @@ put_setup_line-requires c =
     let e : ℕ = c.next_word-word.result.end in
     omega (
       arith,
-      setup_line_most a.number (take (e - s) (drop s a.line.now)) c.number.result,
+      setup_line_most a.number (take (e - s) (drop s a.line.now)) a.refusal,
       word_most a.line.now s e,
       c.next_word-word.ensures.inside,
       c.requires.0,
@@ -27,12 +26,12 @@ returns c =
     let a = c.args in
     let s : ℕ = c.next_word-word.result.start in
     let e : ℕ = c.next_word-word.result.end in
-    let p = rw c.number.ensures at c.put_setup_line.ensures in (
-      put_as p (ap (λ (w : List ℕ). setup_line a.number w (refusals.number a.refusal)) (first_word c.next_word-word.ensures)),
+    let p = c.put_setup_line.ensures in (
+      put_as p (ap (λ (w : List ℕ). setup_line a.number w a.refusal) (first_word c.next_word-word.ensures)),
       omega (
         arith,
         p.ends,
-        setup_line_most a.number (take (e - s) (drop s a.line.now)) (refusals.number a.refusal),
+        setup_line_most a.number (take (e - s) (drop s a.line.now)) a.refusal,
         word_most a.line.now s e,
         c.next_word-word.ensures.inside,
         c.requires.0,

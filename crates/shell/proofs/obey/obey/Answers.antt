@@ -84,7 +84,7 @@ pub returns-in-Call : goal.returns-in-Call
 unfolding obeyed
 returns-in-Call c =
     let f = rw c.in-Call.is at c.requires.ready.1.fixed in
-    rw (c.in-Call.is, f refl) (c.obey_call.ensures c.args.number)
+    rw (c.in-Call.is, f refl) c.obey_call.ensures
 
 pub returns-in-OnPart : goal.returns-in-OnPart
 unfolding obeyed
@@ -96,7 +96,7 @@ pub returns-in-Look : goal.returns-in-Look
 unfolding obeyed
 returns-in-Look c =
     let f = rw c.in-Look.is at c.requires.ready.1.fixed in
-    rw (c.in-Look.is, f refl) (c.obey_look.ensures c.args.number)
+    rw (c.in-Look.is, f refl) c.obey_look.ensures
 
 pub returns-in-Lend : goal.returns-in-Lend
 unfolding obeyed

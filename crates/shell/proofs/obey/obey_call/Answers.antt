@@ -36,7 +36,7 @@ say_reply-requires c = (
 pub returns : goal.returns
 returns c =
     let a = c.args in
-    λ n. lent_spoke (held a.state.now) a.memory.now a.lent
+    lent_spoke (held a.state.now) a.memory.now a.lent
     (λ d m. calls_made d m a.k (firsts (length (call_form a.k)) 0 a.a.now)) c.call-reply.ensures.0
-    (c.say_reply.ensures n) c.call-reply.ensures.1
+    c.say_reply.ensures.printed c.call-reply.ensures.1
     c.requires.0.inside refl

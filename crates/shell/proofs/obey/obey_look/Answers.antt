@@ -19,7 +19,7 @@ say_reply-requires c = (
 pub returns : goal.returns
 returns c =
     let a = c.args in
-    λ n. lent_spoke (held a.state.now) a.memory.now a.lent
+    lent_spoke (held a.state.now) a.memory.now a.lent
     (λ d m. reply (told (looked d a.k (firsts (length (look_form a.k)) 0 a.a.now))) d m)
-    (ap (λ (x : Said). reply x (held a.state.now) (take a.lent a.memory.now)) c.look-reply.ensures.is) (c.say_reply.ensures n)
+    (ap (λ (x : Said). reply x (held a.state.now) (take a.lent a.memory.now)) c.look-reply.ensures.is) c.say_reply.ensures.printed
     c.requires.0.reached c.requires.0.inside (memory_stays a.lent a.memory.now)

@@ -26,21 +26,9 @@ pub slice_bounds-in_memory-end-2 : goal.slice_bounds-in_memory-end-2
 slice_bounds-in_memory-end-2 c =
     sym (length-take-le _ _ (inside (goal.at.slice_bounds-in_memory-end-2 c).Start))
 
-pub say_bad-requires : goal.say_bad-requires
-say_bad-requires c =
-    c.requires.0.room
-
-pub returns-in_default : goal.returns-in_default
-returns-in_default c =
-    let a = c.args in
-    let e = rw c.in_default.is at c.in_memory.ensures in
-    lent_spoke (held a.state.now) a.memory.now a.lent
-    (λ d m. parts_used d m a.k (firsts (length (on_part_form a.k)) 0 a.a.now))
-    (e.0 (held a.state.now)) (c.say_bad.ensures a.word.now) c.requires.0.reached c.requires.0.inside refl
-
 pub say_reply-requires : goal.say_reply-requires
 say_reply-requires c = (
-  (rw c.in-Some.is at c.in_memory.ensures).1,
+  c.in_memory-reply.ensures.1,
   c.requires.0.short,
   c.requires.0.room,
 )
@@ -48,8 +36,7 @@ say_reply-requires c = (
 pub returns : goal.returns
 returns c =
     let a = c.args in
-    let e = rw c.in-Some.is at c.in_memory.ensures in
     lent_spoke (held a.state.now) a.memory.now a.lent
     (λ d m. parts_used d m a.k (firsts (length (on_part_form a.k)) 0 a.a.now))
-    (e.0 (held a.state.now)) (c.say_reply.ensures a.number)
+    (c.in_memory-reply.ensures.0 (held a.state.now)) c.say_reply.ensures.printed
     c.requires.0.reached c.requires.0.inside refl

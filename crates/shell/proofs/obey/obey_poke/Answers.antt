@@ -24,25 +24,9 @@ pub slice_bounds-poke-end-2 : goal.slice_bounds-poke-end-2
 slice_bounds-poke-end-2 c =
     sym (length-take-le _ _ (inside (goal.at.slice_bounds-poke-end-2 c).Start))
 
-pub say_bad-requires : goal.say_bad-requires
-say_bad-requires c =
-    c.requires.0.room
-
-pub returns-in_default : goal.returns-in_default
-returns-in_default c =
-    let a = c.args in
-    let e = rw c.in_default.is at c.poke.ensures in
-    lent_spoke (held a.state.now) a.memory.now a.lent
-    (λ d m. poked d m a.width (get_or (take a.count a.a.now) 0 0) (drop 1 (take a.count a.a.now)))
-    (e.0 (held a.state.now)
-    ∙ rw (
-      place_of a.count a.a.now c.requires.2,
-      values_behind a.count a.a.now c.requires.2,
-    )) (c.say_bad.ensures a.word.now) c.requires.0.reached c.requires.0.inside refl
-
 pub say_reply-requires : goal.say_reply-requires
 say_reply-requires c = (
-  (rw c.in-Some.is at c.poke.ensures).1,
+  c.poke-reply.ensures.1,
   c.requires.0.short,
   c.requires.0.room,
 )
@@ -50,12 +34,11 @@ say_reply-requires c = (
 pub returns : goal.returns
 returns c =
     let a = c.args in
-    let e = rw c.in-Some.is at c.poke.ensures in
     lent_spoke (held a.state.now) a.memory.now a.lent
     (λ d m. poked d m a.width (get_or (take a.count a.a.now) 0 0) (drop 1 (take a.count a.a.now)))
-    (e.0 (held a.state.now)
+    (c.poke-reply.ensures.0 (held a.state.now)
     ∙ rw (
       place_of a.count a.a.now c.requires.2,
       values_behind a.count a.a.now c.requires.2,
-    )) (c.say_reply.ensures a.number)
+    )) c.say_reply.ensures.printed
     c.requires.0.reached c.requires.0.inside refl

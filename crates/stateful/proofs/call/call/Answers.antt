@@ -23,7 +23,7 @@ pub returns-in-Controller : goal.returns-in-Controller
 unfolding calls_made
 returns-in-Controller c =
     let e = c.reset.ensures in (
-      rw (c.in-Controller.is, c.changed.ensures, ← e.0, ← e.1.is),
+      rw (c.in-Controller.is, c.changed.ensures, c.code.ensures, ← e.0, ← e.1.is),
       reached_new _ _ e.1,
       rw c.changed.ensures (omega arith),
     )
@@ -32,7 +32,7 @@ pub returns-in-CreateCq : goal.returns-in-CreateCq
 unfolding calls_made
 returns-in-CreateCq c =
     let e = c.create_cq.ensures in (
-      rw c.in-CreateCq.is (call_made _ _ _ _ (calls.create_cq _ _ _) _ c.changed-in-CreateCq.ensures e.1),
+      rw c.in-CreateCq.is (call_made _ _ _ _ (calls.create_cq _ _ _) _ c.code-in-CreateCq.ensures c.changed-in-CreateCq.ensures e.1),
       reached_call _ (calls.create_cq _ _ _) c.requires.0
           e.0 e.1,
       rw c.changed-in-CreateCq.ensures (omega arith),
@@ -43,7 +43,7 @@ unfolding calls_made
 returns-in-CreateSq c =
     let e = c.create_sq.ensures in (
       rw c.in-CreateSq.is (call_made _ _ _ _
-          (calls.create_sq _ _ _ _ _) _ c.changed-in-CreateSq.ensures e.1),
+          (calls.create_sq _ _ _ _ _) _ c.code-in-CreateSq.ensures c.changed-in-CreateSq.ensures e.1),
       reached_call _ (calls.create_sq _ _ _ _ _) c.requires.0 e.0 e.1,
       rw c.changed-in-CreateSq.ensures (omega arith),
     )
@@ -52,7 +52,7 @@ pub returns-in-DeleteCq : goal.returns-in-DeleteCq
 unfolding calls_made
 returns-in-DeleteCq c =
     let e = c.delete_cq.ensures in (
-      rw c.in-DeleteCq.is (call_made _ _ _ _ (calls.delete_cq _) _ c.changed-in-DeleteCq.ensures (e.1 _)),
+      rw c.in-DeleteCq.is (call_made _ _ _ _ (calls.delete_cq _) _ c.code-in-DeleteCq.ensures c.changed-in-DeleteCq.ensures (e.1 _)),
       reached_call [] (calls.delete_cq _) c.requires.0 e.0 (e.1 []),
       rw c.changed-in-DeleteCq.ensures (omega arith),
     )
@@ -61,7 +61,7 @@ pub returns-in-DeleteSq : goal.returns-in-DeleteSq
 unfolding calls_made
 returns-in-DeleteSq c =
     let e = c.delete_sq.ensures in (
-      rw c.in-DeleteSq.is (call_made _ _ _ _ (calls.delete_sq _) _ c.changed-in-DeleteSq.ensures (e.1 _)),
+      rw c.in-DeleteSq.is (call_made _ _ _ _ (calls.delete_sq _) _ c.code-in-DeleteSq.ensures c.changed-in-DeleteSq.ensures (e.1 _)),
       reached_call [] (calls.delete_sq _) c.requires.0 e.0 (e.1 []),
       rw c.changed-in-DeleteSq.ensures (omega arith),
     )
@@ -70,7 +70,7 @@ pub returns-in-Tail : goal.returns-in-Tail
 unfolding calls_made
 returns-in-Tail c =
     let e = c.tail_write.ensures in (
-      rw c.in-Tail.is (call_made _ _ _ _ (calls.tail_write _ _) _ c.changed-in-Tail.ensures (e.1 _)),
+      rw c.in-Tail.is (call_made _ _ _ _ (calls.tail_write _ _) _ c.code-in-Tail.ensures c.changed-in-Tail.ensures (e.1 _)),
       reached_call [] (calls.tail_write _ _) c.requires.0 e.0 (e.1 []),
       rw c.changed-in-Tail.ensures (omega arith),
     )
@@ -79,7 +79,7 @@ pub returns-in-Head : goal.returns-in-Head
 unfolding calls_made
 returns-in-Head c =
     let e = c.head_write.ensures in (
-      rw c.in-Head.is (call_made _ _ _ _ (calls.head_write _ _) _ c.changed-in-Head.ensures (e.1 _)),
+      rw c.in-Head.is (call_made _ _ _ _ (calls.head_write _ _) _ c.code-in-Head.ensures c.changed-in-Head.ensures (e.1 _)),
       reached_call [] (calls.head_write _ _) c.requires.0 e.0 (e.1 []),
       rw c.changed-in-Head.ensures (omega arith),
     )

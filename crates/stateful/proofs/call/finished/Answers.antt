@@ -5,8 +5,8 @@ use Rattle.stateful.proofs.call.finished.Goals as goal
 
 pub returns-in-Ok : goal.returns-in-Ok
 returns-in-Ok c =
-    rw c.in-Ok.is c.told.ensures
+    rw c.in-Ok.is c.told.ensures.says
 
 pub returns-in-Err : goal.returns-in-Err
 returns-in-Err c =
-    rw (c.in-Err.is, c.changed.ensures) (record { is = refl; few = omega arith })
+    rw (c.in-Err.is, c.changed.ensures, c.number.ensures) (record { is = refl; few = omega arith })

@@ -17,12 +17,12 @@ show_tag-requires c =
 pub returns-in-CheckTail : goal.returns-in-CheckTail
 unfolding looked
 returns-in-CheckTail c =
-    rw c.in-CheckTail.is (rw (c.code.ensures, c.check_tail.ensures) at c.told.ensures)
+    rw c.in-CheckTail.is (rw (c.code.ensures, c.check_tail.ensures) at c.told.ensures.says)
 
 pub returns-in-CheckHead : goal.returns-in-CheckHead
 unfolding looked
 returns-in-CheckHead c =
-    rw c.in-CheckHead.is (rw (c.code-in-CheckHead.ensures, c.check_head.ensures) at c.told-in-CheckHead.ensures)
+    rw c.in-CheckHead.is (rw (c.code-in-CheckHead.ensures, c.check_head.ensures) at c.told-in-CheckHead.ensures.says)
 
 pub returns-in-ShowSq : goal.returns-in-ShowSq
 returns-in-ShowSq c =

@@ -14,4 +14,4 @@ returns c =
       c.number-3.ensures,
       c.number-4.ensures,
       c.arbiter_of-t.ensures,
-    ) at c.told.ensures
+    ) at c.told.ensures.says

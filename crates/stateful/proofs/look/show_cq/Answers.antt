@@ -10,4 +10,4 @@ returns c =
       c.from.ensures,
       bit_is,
       c.cq_at-q.ensures,
-    ) at c.told.ensures
+    ) at c.told.ensures.says

@@ -12,4 +12,4 @@ returns c =
       c.from-2.ensures,
       bit_is,
       c.sq_at-q.ensures,
-    ) at c.told.ensures
+    ) at c.told.ensures.says

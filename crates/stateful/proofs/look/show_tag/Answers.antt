@@ -13,7 +13,7 @@ returns-then-not-is_outstanding c =
     let e : outstanding (held c.args.state.now).free (get_or c.args.a.now 0 0) ≡ false =
     sym (c.is_outstanding.ensures ∙ ap (λ x. outstanding x (get_or c.args.a.now 0 0)) c.free_of.ensures)
     ∙ c.if-not-is_outstanding.true in
-    rw e c.told.ensures
+    rw e c.told.ensures.says
 
 pub returns : goal.returns
 unfolding looked
@@ -21,4 +21,4 @@ returns c =
     let e : outstanding (held c.args.state.now).free (get_or c.args.a.now 0 0) ≡ true =
     sym (c.is_outstanding.ensures ∙ ap (λ x. outstanding x (get_or c.args.a.now 0 0)) c.free_of.ensures)
     ∙ c.if-not-is_outstanding.false in
-    rw e (rw c.command_at-k.ensures at c.told-2.ensures)
+    rw e (rw c.command_at-k.ensures at c.told-2.ensures.says)

@@ -11,4 +11,4 @@ say-requires c =
 
 pub returns : goal.returns
 returns c =
-    rw c.number.ensures at c.say.ensures
+    rw (c.number.ensures, c.number-2.ensures) at c.say.ensures

@@ -5,8 +5,8 @@ use Rattle.stateless.proofs.part.of_waiting.Goals as goal
 
 pub returns-in-Ok : goal.returns-in-Ok
 returns-in-Ok c =
-    rw c.in-Ok.is c.told.ensures
+    rw c.in-Ok.is c.told.ensures.says
 
 pub returns-in-Err : goal.returns-in-Err
 returns-in-Err c =
-    rw (c.in-Err.is, c.told_refusal.ensures) (record { is = refl; few = omega arith })
+    rw (c.in-Err.is, c.told_refusal.ensures, c.number.ensures) (record { is = refl; few = omega arith })

@@ -21,11 +21,11 @@ unfolding on_part
 returns-in-Fill c = (
   rw (
     c.in-Fill.is,
-    c.told.ensures.is,
+    c.told.ensures.says.is,
     c.fill.ensures.len,
     c.fill.ensures.after (λ y e. e),
   ),
-  c.told.ensures.few,
+  c.told.ensures.says.few,
 )
 
 pub returns-in-WriteSqe : goal.returns-in-WriteSqe
@@ -35,6 +35,7 @@ returns-in-WriteSqe c =
       rw (
         c.in-WriteSqe.is,
         c.changed.ensures,
+        c.code.ensures,
         ← c.submission_of.ensures,
         ← e.value,
         ← e.buf_after,
@@ -52,7 +53,7 @@ returns-in-ReadSqe c = (
 pub returns-in-WriteCqe : goal.returns-in-WriteCqe
 unfolding on_part
 returns-in-WriteCqe c = (
-  rw (c.in-WriteCqe.is, c.changed-in-WriteCqe.ensures) c.write_cqe.ensures,
+  rw (c.in-WriteCqe.is, c.changed-in-WriteCqe.ensures, c.code-in-WriteCqe.ensures) c.write_cqe.ensures,
   rw c.changed-in-WriteCqe.ensures (omega arith),
 )
 

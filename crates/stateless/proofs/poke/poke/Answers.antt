@@ -38,6 +38,6 @@ returns c =
     let h : a.place ≤ length a.memory.now = omega arith in
     let j : length a.values.now ≤ (length a.memory.now - a.place) / a.width = c.if-memory-at.false in
     let f = values_fit (length a.memory.now - a.place) a.width (length a.values.now) c.requires j in (
-      (λ d. poke_put d a.memory.now a.width a.place a.values.now _ c.told.ensures.is h f c.put_values.ensures),
-      c.told.ensures.few,
+      (λ d. poke_put d a.memory.now a.width a.place a.values.now _ c.told.ensures.says.is h f c.put_values.ensures),
+      c.told.ensures.says.few,
     )

@@ -7,4 +7,4 @@ pub returns : goal.returns
 returns c =
     let p = c.put_sentence.ensures in
     let v = c.of.ensures in
-    λ n. record { text = p; good = v.0; refusal = v.1; lent = refl; short = omega (arith, p.ends) }
+    λ n. record { text = p; good = v.0; refusal = v.1; numbered = v.2; lent = refl; short = omega (arith, p.ends) }

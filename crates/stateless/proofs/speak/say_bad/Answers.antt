@@ -16,6 +16,7 @@ returns c =
       text = p;
       good = refl;
       refusal = refl;
+      numbered = tt;
       lent = refl;
       short = omega (arith, p.ends, bad_line_most c.args.number);
     }
