@@ -30,7 +30,7 @@ pub fn put_piece(out: &mut [u8], tally: Tally, trace: &[u8], answers: &[u8]) -> 
     let mut to = 0;
     for at in (0..trace.len()).step_by(RECORD_BYTES) {
         let end = next_at(trace, at);
-        after = after.with(le::get::<1>(answers, at + 1));
+        after.count(le::get::<1>(answers, at + 1));
         to = put_record(
             out,
             to,

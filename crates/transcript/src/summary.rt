@@ -52,20 +52,27 @@ impl Tally {
     }
 
     // Counts a record by its refusal number, 0 for none. A number above the largest counts as refused, and has no count of its own.
-    pub fn with(mut self, refusal: u64) -> Tally
-        ensures { result ≡ counted self refusal }
+    pub(crate) fn count(&mut self, refusal: u64)
+        ensures { self.new ≡ counted self.old refusal }
     {
         self.records = plus_one(self.records);
         self.calls = calls_after(self.calls, refusal);
         if refusal == 0 {
-            return self;
+            return;
         }
         self.refused = plus_one(self.refused);
         let i = refusal as usize;
         if NUMBERS <= i {
-            return self;
+            return;
         }
         self.numbers[i] = plus_one(self.numbers[i]);
+    }
+
+    // With such a record counted.
+    pub fn with(mut self, refusal: u64) -> Tally
+        ensures { result ≡ counted self refusal }
+    {
+        self.count(refusal);
         self
     }
 }

@@ -47,7 +47,7 @@ put_record-to-requires c =
     let l = c.loop-at in
     let h : l.at < length trace = omega arith in
     let end = c.next_at-end.result in
-    let u = c.with-after.result in
+    let u = c.count.new.self in
     let bytes = take (end - l.at) (drop l.at trace) in
     let answer = take (l.at + 16 - l.at) (drop l.at answers) in
     let room : 0 + length (told c.args.tally (left trace answers 0)) ≤ length c.args.out.now =
@@ -58,7 +58,7 @@ put_record-to-requires c =
         omega (arith, length-take (l.at + 16 - l.at) (drop l.at answers), length-drop l.at answers, c.requires.trace_len_bound),
       );
       answer_in_bounds = room_more l.invariant.1 (record_line u.records bytes answer) (told u (left trace answers (l.at + 16)))
-          (told_next trace answers l.at h c.get.ensures.0 c.next_at-end.ensures l.after c.with-after.ensures) room;
+          (told_next trace answers l.at h c.get.ensures.0 c.next_at-end.ensures l.after c.count.ensures) room;
     }
 
 pub loop-at-smaller : goal.loop-at-smaller
@@ -72,9 +72,9 @@ loop-at-preserved c =
     let h : l.at < length s.trace.now = omega arith in (
       omega arith,
       one_more l.invariant.1
-          (told_next s.trace.now s.answers.now l.at h c.get.ensures.0 c.next_at-end.ensures l.after c.with-after.ensures)
+          (told_next s.trace.now s.answers.now l.at h c.get.ensures.0 c.next_at-end.ensures l.after c.count.ensures)
           c.put_record-to.ensures,
-      sym (tallied_next s.trace.now s.answers.now l.at h c.get.ensures.0 c.next_at-end.ensures l.after c.with-after.ensures)
+      sym (tallied_next s.trace.now s.answers.now l.at h c.get.ensures.0 c.next_at-end.ensures l.after c.count.ensures)
           ∙ l.invariant.2,
     )
 
@@ -98,14 +98,14 @@ returns-2 c =
     let answers = s.answers.now in
     let h : l.at < length trace = omega arith in
     let last : length trace ≤ l.at + 16 = omega arith in
-    let u = c.with-after in
+    let u = c.count in
     let read = c.get.ensures.0 in
     let end = c.next_at-end.ensures in
     let all = left_all trace answers in
     let put = one_more l.invariant.1 (told_next trace answers l.at h read end l.after u.ensures) c.put_record-to.ensures in
     record {
-      put = put_as (all_put put (told_none trace answers (l.at + 16) u.result last)) (ap (told s.tally) all);
-      tally_value = sym (tallied_none trace answers (l.at + 16) u.result last)
+      put = put_as (all_put put (told_none trace answers (l.at + 16) u.new.self last)) (ap (told s.tally) all);
+      tally_value = sym (tallied_none trace answers (l.at + 16) u.new.self last)
           ∙ sym (tallied_next trace answers l.at h read end l.after u.ensures)
           ∙ l.invariant.2
           ∙ ap (tallied s.tally) all;
