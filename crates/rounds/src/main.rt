@@ -468,10 +468,11 @@ fn plan_of(line: &[u8]) -> Plan
 
 // The digest for a plan on a line, which may end in LF.
 fn digest_for(input: &[u8]) -> u64 {
-    match input {
-        [line @ .., b'\n'] => digest_of(plan_of(line)),
-        _ => digest_of(plan_of(input)),
-    }
+    let line = match input {
+        [line @ .., b'\n'] => line,
+        _ => input,
+    };
+    digest_of(plan_of(line))
 }
 
 fn main(rt: HostRuntime) -> io::Result<()> {
