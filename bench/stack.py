@@ -119,7 +119,7 @@ def is_table_jump(code, index):
     """Whether an indirect jump goes through a table of offsets, and so stays in its function."""
     before = " ; ".join(c.name + " " + c.operands for c in code[max(0, index - 8):index])
     register = code[index].operands[1:]
-    return re.search(r"movslq \([^;]*,4\),%s ;.*add %%\w+,%s( ;|$)" % (register, register), before) is not None
+    return re.search(r"movslq (?:0x0)?\([^;]*,4\),%s ;.*add %%\w+,%s( ;|$)" % (register, register), before) is not None
 
 
 class Reading:
