@@ -17,7 +17,7 @@ use rules::refusal::{Refusal, code};
 use starter::start;
 use std::io;
 use std::io::Read;
-use store::{Controller, WORDS};
+use store::{WORDS, reset};
 
 // A page for each of the 16 submission and 16 completion rings.
 const MEMORY_BYTES: usize = 131072;
@@ -429,11 +429,11 @@ fn digest_of(p: Plan) -> u64
     requires { (p.busy ≤ 16) × (p.outstanding ≤ 63) }
 {
     let mut memory = [0u8; MEMORY_BYTES];
-    let fresh = Controller::new(p.mechanism, WORD);
-    let mut controller = fresh.controller;
-    let mut run = prepare(&mut controller.words, &mut memory, p);
+    let mut words = [0u64; WORDS];
+    let _ = reset(&mut words, p.mechanism, WORD);
+    let mut run = prepare(&mut words, &mut memory, p);
     for _ in 0..p.batches {
-        run = batch(&mut controller.words, run, &mut memory, p);
+        run = batch(&mut words, run, &mut memory, p);
     }
     run.digest
 }

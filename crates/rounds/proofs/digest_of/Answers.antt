@@ -3,4 +3,4 @@ use Rattle.store.proofs.Fresh.{reached_new}
 use Rattle.rounds.proofs.digest_of.Goals as goal
 
 pub prepare-run-requires : goal.prepare-run-requires
-prepare-run-requires c = reached_new _ _ c.new-fresh.ensures.1
+prepare-run-requires c = reached_new _ _ c.reset.ensures.1
