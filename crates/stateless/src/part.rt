@@ -12,7 +12,7 @@ ghost use Rattle.language.specs.Commands.{submission_of, submission_numbers, com
 ghost use Rattle.stateless.specs.Leaving.{Says, Narrow, firsts, heard, heard_or_bad};
 
 use crate::place::part_of;
-use crate::reply::{Reply, changed, told, told_refusal};
+use crate::reply::{Reply, changed, told, told_number};
 use entry::completion::Completion;
 use entry::submission::Submission;
 use language::command::OnPart;
@@ -63,7 +63,7 @@ fn of_submission(answer: Result<Submission, Refusal>) -> Reply
             e.cdw14 as u64,
             e.cdw15 as u64,
         ]),
-        Err(refusal) => told_refusal(refusal.number(), 15),
+        Err(refusal) => told_number(refusal.number(), 15),
     }
 }
 
@@ -80,7 +80,7 @@ fn of_completion(answer: Result<(Completion, u8), Refusal>) -> Reply
             e.status as u64,
             phase as u64,
         ]),
-        Err(refusal) => told_refusal(refusal.number(), 7),
+        Err(refusal) => told_number(refusal.number(), 7),
     }
 }
 
@@ -89,7 +89,7 @@ fn of_waiting(answer: Result<u64, Refusal>) -> Reply
 {
     match answer {
         Ok(n) => told(&[0, n]),
-        Err(refusal) => told_refusal(refusal.number(), 2),
+        Err(refusal) => told_number(refusal.number(), 2),
     }
 }
 

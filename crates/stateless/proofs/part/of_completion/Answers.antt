@@ -9,4 +9,4 @@ returns-in-Ok c =
 
 pub returns-in-Err : goal.returns-in-Err
 returns-in-Err c =
-    rw (c.in-Err.is, c.told_refusal.ensures, c.number.ensures) (record { is = refl; few = omega arith })
+    rw (c.in-Err.is, c.told_number.ensures, c.number.ensures) (record { is = refl; few = omega arith })
