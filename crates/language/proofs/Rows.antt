@@ -1,8 +1,8 @@
 -- The code's table of words and commands: each of its rows is the vocabulary's, and what is left of them from a place on. Assumes nothing.
-use Rattle.std.proofs.Common.{◌≡◌, ℕ, ◌+◌, ◌<◌, ◌≤◌, List, [], true, false, length, get_or, drop, map, Bor}
+use Rattle.std.proofs.Common.{◌≡◌, ℕ, ◌+◌, ◌<◌, ◌≤◌, List, [], ◌∷◌, true, false, length, get_or, drop, map, Bor}
 use Rattle.std.proofs.Common.{refl, sym, ap, ◌∙◌, arith, drop_of_length-le}
-use Rattle.std.proofs.lemmas.List.{get_or-map, length-map}
-use Rattle.std.specs.Prelude.{Some, None}
+use Rattle.std.proofs.lemmas.List.{get_or-map, length-map, drop-map}
+use Rattle.std.specs.Prelude.{Option, Some, None}
 use Prim.Native.String.{String}
 use native.Mathlib.Numerals.{add-one}
 use lib.Seq.{drop-cons}
@@ -59,35 +59,84 @@ Lent = Bor (List ℕ) × Command
 abbrev pub row_lent : Lent → Row
 row_lent r = (r.0.now, r.1)
 
--- they are those of the table, and the command that a word names is that of the vocabulary's rows from the place on
+-- the command of the first that has the word
+abbrev pub found_in : List ℕ → List Lent → Option Command
+found_in w [] = None
+found_in w (r ∷ rs) = pick (same w r.0.now) (Some r.1) (found_in w rs)
+
+-- the command that a word names is that of the rows from a place on
 pub record Left (w : List ℕ) (lent : List Lent) (i : ℕ) : Type 0 where
-  pub are : map row_lent lent ≡ table
-  pub finds : among w (drop i vocabulary) ≡ named w
+  pub many : length lent ≡ 27
+  pub finds : found_in w (drop i lent) ≡ named w
 
 abbrev past : Lent
 past = (record { ref_ptr = (0, 0); now = [] }, K.Call C.Controller)
 
 module _ {w : List ℕ} {lent : List Lent} {i : ℕ} (l : Left w lent i) where
-  lent_row : i < 27 → row_lent (get_or lent i past) ≡ get_or table i (row_of no_row)
-  lent_row h =
-      let n : length lent ≡ 27 = sym (length-map lent row_lent) ∙ ap length l.are in
-      sym (get_or-map row_lent lent i past _ (omega (arith, h, n))) ∙ ap (λ (rs : List Row). get_or rs i (row_of no_row)) l.are
-
-  here : i < 27
-      → pick (same w (get_or lent i past).0.now) (Some (get_or lent i past).1) (among w (drop (i + 1) vocabulary)) ≡ named w
-  unfolding among
-  here h =
-      let s = stands i h in
-      let word = ap (λ (r : Row). r.0) (lent_row h) ∙ s.word in
-      let command = ap (λ (r : Row). r.1) (lent_row h) ∙ s.command in
-      rw (word, command, add-one i) (sym (ap (among w) (drop-cons vocabulary i no_row (omega (arith, h, rows)))) ∙ l.finds)
+  here : i < 27 → pick (same w (get_or lent i past).0.now) (Some (get_or lent i past).1) (found_in w (drop (i + 1) lent)) ≡ named w
+  here h = rw (add-one i) (sym (ap (found_in w) (drop-cons lent i past (omega (arith, h, l.many)))) ∙ l.finds)
 
   pub row_found : i < 27 → same w (get_or lent i past).0.now ≡ true → Some (get_or lent i past).1 ≡ named w
   row_found h e = rw e at (here h)
 
   pub row_passed : i < 27 → same w (get_or lent i past).0.now ≡ false → Left w lent (i + 1)
-  row_passed h e = record { are = l.are; finds = rw e at (here h) }
+  row_passed h e = record { many = l.many; finds = rw e at (here h) }
 
   pub none_left : 27 ≤ i → None ≡ named w
+  none_left h = sym (ap (found_in w) (drop_of_length-le lent (omega (arith, h, l.many)))) ∙ l.finds
+
+-- ---- those of the code's table
+
+-- they are the table's, and the command that a word names is that of the vocabulary's rows from the place on
+pub record Standing (w : List ℕ) (lent : List Lent) (i : ℕ) : Type 0 where
+  pub are : map row_lent lent ≡ table
+  pub finds : among w (drop i vocabulary) ≡ named w
+
+module _ {w : List ℕ} {lent : List Lent} {i : ℕ} (l : Standing w lent i) where
+  lent_row : i < 27 → row_lent (get_or lent i past) ≡ get_or table i (row_of no_row)
+  lent_row h =
+      let n : length lent ≡ 27 = sym (length-map lent row_lent) ∙ ap length l.are in
+      sym (get_or-map row_lent lent i past _ (omega (arith, h, n))) ∙ ap (λ (rs : List Row). get_or rs i (row_of no_row)) l.are
+
+  standing_here : i < 27
+      → pick (same w (get_or lent i past).0.now) (Some (get_or lent i past).1) (among w (drop (i + 1) vocabulary)) ≡ named w
   unfolding among
-  none_left h = sym (ap (among w) (drop_of_length-le vocabulary (omega (arith, h, rows)))) ∙ l.finds
+  standing_here h =
+      let s = stands i h in
+      let word = ap (λ (r : Row). r.0) (lent_row h) ∙ s.word in
+      let command = ap (λ (r : Row). r.1) (lent_row h) ∙ s.command in
+      rw (word, command, add-one i) (sym (ap (among w) (drop-cons vocabulary i no_row (omega (arith, h, rows)))) ∙ l.finds)
+
+  pub standing_found : i < 27 → same w (get_or lent i past).0.now ≡ true → Some (get_or lent i past).1 ≡ named w
+  standing_found h e = rw e at (standing_here h)
+
+  pub standing_passed : i < 27 → same w (get_or lent i past).0.now ≡ false → Standing w lent (i + 1)
+  standing_passed h e = record { are = l.are; finds = rw e at (standing_here h) }
+
+  pub none_standing : 27 ≤ i → None ≡ named w
+  unfolding among
+  none_standing h = sym (ap (among w) (drop_of_length-le vocabulary (omega (arith, h, rows)))) ∙ l.finds
+
+-- so the command that a word names is that of the table's rows too
+found : List ℕ → List Row → Option Command
+found w [] = None
+found w (r ∷ rs) = pick (same w r.0) (Some r.1) (found w rs)
+
+found_lent : (w : List ℕ) (rs : List Lent) → found_in w rs ≡ found w (map row_lent rs)
+unfolding found
+found_lent w [] = refl
+found_lent w (r ∷ rs) = ap (pick (same w r.0.now) (Some r.1)) (found_lent w rs)
+
+found_of : (w : List ℕ) (rs : List (String × Command)) → found w (map row_of rs) ≡ among w rs
+unfolding found among
+found_of w [] = refl
+found_of w (r ∷ rs) = ap (pick (same w (bytes r.0)) (Some r.1)) (found_of w rs)
+
+pub standing_left : {w : List ℕ} {lent : List Lent} {i : ℕ} → Standing w lent i → Left w lent i
+standing_left {w} {lent} {i} l =
+    let rest : map row_lent (drop i lent) ≡ map row_of (drop i vocabulary) =
+    sym (drop-map row_lent i lent) ∙ ap (drop i) (l.are ∙ same_rows) ∙ drop-map row_of i vocabulary in
+    record {
+      many = sym (length-map lent row_lent) ∙ ap length l.are;
+      finds = found_lent w (drop i lent) ∙ ap (found w) rest ∙ found_of w (drop i vocabulary) ∙ l.finds;
+    }
