@@ -64,7 +64,7 @@ abbrev pub found_in : List ℕ → List Lent → Option Command
 found_in w [] = None
 found_in w (r ∷ rs) = pick (same w r.0.now) (Some r.1) (found_in w rs)
 
--- the command that a word names is that of the rows from a place on
+-- there are 27, and the command that a word names is that of the rows from the place on
 pub record Left (w : List ℕ) (lent : List Lent) (i : ℕ) : Type 0 where
   pub many : length lent ≡ 27
   pub finds : found_in w (drop i lent) ≡ named w
@@ -92,32 +92,7 @@ pub record Standing (w : List ℕ) (lent : List Lent) (i : ℕ) : Type 0 where
   pub are : map row_lent lent ≡ table
   pub finds : among w (drop i vocabulary) ≡ named w
 
-module _ {w : List ℕ} {lent : List Lent} {i : ℕ} (l : Standing w lent i) where
-  lent_row : i < 27 → row_lent (get_or lent i past) ≡ get_or table i (row_of no_row)
-  lent_row h =
-      let n : length lent ≡ 27 = sym (length-map lent row_lent) ∙ ap length l.are in
-      sym (get_or-map row_lent lent i past _ (omega (arith, h, n))) ∙ ap (λ (rs : List Row). get_or rs i (row_of no_row)) l.are
-
-  standing_here : i < 27
-      → pick (same w (get_or lent i past).0.now) (Some (get_or lent i past).1) (among w (drop (i + 1) vocabulary)) ≡ named w
-  unfolding among
-  standing_here h =
-      let s = stands i h in
-      let word = ap (λ (r : Row). r.0) (lent_row h) ∙ s.word in
-      let command = ap (λ (r : Row). r.1) (lent_row h) ∙ s.command in
-      rw (word, command, add-one i) (sym (ap (among w) (drop-cons vocabulary i no_row (omega (arith, h, rows)))) ∙ l.finds)
-
-  pub standing_found : i < 27 → same w (get_or lent i past).0.now ≡ true → Some (get_or lent i past).1 ≡ named w
-  standing_found h e = rw e at (standing_here h)
-
-  pub standing_passed : i < 27 → same w (get_or lent i past).0.now ≡ false → Standing w lent (i + 1)
-  standing_passed h e = record { are = l.are; finds = rw e at (standing_here h) }
-
-  pub none_standing : 27 ≤ i → None ≡ named w
-  unfolding among
-  none_standing h = sym (ap (among w) (drop_of_length-le vocabulary (omega (arith, h, rows)))) ∙ l.finds
-
--- so the command that a word names is that of the table's rows too
+-- the same of rows by the bytes of their words
 found : List ℕ → List Row → Option Command
 found w [] = None
 found w (r ∷ rs) = pick (same w r.0) (Some r.1) (found w rs)
@@ -132,11 +107,22 @@ unfolding found among
 found_of w [] = refl
 found_of w (r ∷ rs) = ap (pick (same w (bytes r.0)) (Some r.1)) (found_of w rs)
 
-pub standing_left : {w : List ℕ} {lent : List Lent} {i : ℕ} → Standing w lent i → Left w lent i
-standing_left {w} {lent} {i} l =
-    let rest : map row_lent (drop i lent) ≡ map row_of (drop i vocabulary) =
-    sym (drop-map row_lent i lent) ∙ ap (drop i) (l.are ∙ same_rows) ∙ drop-map row_of i vocabulary in
-    record {
-      many = sym (length-map lent row_lent) ∙ ap length l.are;
-      finds = found_lent w (drop i lent) ∙ ap (found w) rest ∙ found_of w (drop i vocabulary) ∙ l.finds;
-    }
+module _ {w : List ℕ} {lent : List Lent} {i : ℕ} (l : Standing w lent i) where
+  -- from any place on, the table's rows find what the vocabulary's do
+  found_among : (j : ℕ) → found_in w (drop j lent) ≡ among w (drop j vocabulary)
+  found_among j =
+      let rest : map row_lent (drop j lent) ≡ map row_of (drop j vocabulary) =
+      sym (drop-map row_lent j lent) ∙ ap (drop j) (l.are ∙ same_rows) ∙ drop-map row_of j vocabulary in
+      found_lent w (drop j lent) ∙ ap (found w) rest ∙ found_of w (drop j vocabulary)
+
+  pub standing_left : Left w lent i
+  standing_left = record { many = sym (length-map lent row_lent) ∙ ap length l.are; finds = found_among i ∙ l.finds }
+
+  pub standing_found : i < 27 → same w (get_or lent i past).0.now ≡ true → Some (get_or lent i past).1 ≡ named w
+  standing_found = row_found standing_left
+
+  pub standing_passed : i < 27 → same w (get_or lent i past).0.now ≡ false → Standing w lent (i + 1)
+  standing_passed h e = record { are = l.are; finds = sym (found_among (i + 1)) ∙ (row_passed standing_left h e).finds }
+
+  pub none_standing : 27 ≤ i → None ≡ named w
+  none_standing = none_left standing_left
